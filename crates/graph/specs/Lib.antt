@@ -1,0 +1,5 @@
+pub mod Edges
+pub mod Numbers
+pub mod Calls
+pub mod Memory
+pub mod Lists
