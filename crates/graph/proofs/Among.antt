@@ -14,7 +14,7 @@ use Rattle.std.proofs.shelf.Ways.{same-from-decides, decides-like, decides-not,
 use Rattle.graph.specs.declared.edges.Edge.{Edge}
 use Rattle.graph.specs.Edges.{edge, blank, is, among, holds}
 use Rattle.graph.proofs.Same.{decides-is, is-self, is-other}
-use Rattle.graph.proofs.Changes.{Changed}
+use Rattle.graph.proofs.OneEdge.{Changed}
 
 abbrev pub Stands : List Edge → ℕ → Edge → Type 0
 Stands xs n e = (k : ℕ) × (k < n) × (getD xs k blank ≡ e)

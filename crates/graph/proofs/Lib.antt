@@ -1,4 +1,4 @@
 pub mod Same
-pub mod Changes
+pub mod OneEdge
 pub mod Among
 pub mod Lowest

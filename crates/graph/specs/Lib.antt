@@ -1,5 +1,6 @@
 pub mod Edges
 pub mod Numbers
 pub mod Calls
+pub mod Changes
 pub mod Memory
 pub mod Lists

@@ -1,10 +1,14 @@
 // Labelled directed graphs behind one interface, and the kinds of graph.
+mod changes;
 mod edges;
 mod interface;
 mod list;
 mod list_graph;
 mod outcomes;
 
+pub use changes::Change;
+pub use changes::Changed;
+pub use changes::apply;
 pub use edges::Edge;
 pub use edges::EdgePartialEq;
 pub use edges::LabelId;

@@ -5,7 +5,7 @@ use Prim.Native.Nat.{_+_}
 use lib.ListN.{set, length-set}
 use Rattle.graph.specs.Edges.{among}
 use Rattle.graph.proofs.Among.{among-append, distinct-append}
-use Rattle.graph.proofs.Changes.{count-put, legal-changed}
+use Rattle.graph.proofs.OneEdge.{count-put, legal-changed}
 use Rattle.graph.proofs.list.EdgeList.append.Needs as need
 
 pub ghost-self : need.ghost-self

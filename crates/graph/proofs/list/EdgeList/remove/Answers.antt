@@ -6,7 +6,7 @@ use lib.ListN.{set, getD, length-set}
 use Rattle.meaning.specs.Graphs.{count}
 use Rattle.graph.specs.Edges.{among, blank}
 use Rattle.graph.proofs.Among.{among-at, among-remove, distinct-remove}
-use Rattle.graph.proofs.Changes.{count-strike, legal-changed}
+use Rattle.graph.proofs.OneEdge.{count-strike, legal-changed}
 use Rattle.graph.proofs.list.EdgeList.remove.Needs as need
 
 pub ghost-self : need.ghost-self

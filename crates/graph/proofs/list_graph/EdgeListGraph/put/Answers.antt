@@ -8,7 +8,7 @@ use Rattle.graph.specs.declared.edges.Edge.{Edge}
 use Rattle.graph.specs.Edges.{among}
 use Rattle.graph.specs.Lists.{list-graph}
 use Rattle.graph.proofs.Among.{among-at, among-append}
-use Rattle.graph.proofs.Changes.{LegalEdge, put-taken-there, put-taken-new, put-full}
+use Rattle.graph.proofs.OneEdge.{LegalEdge, put-taken-there, put-taken-new, put-full}
 use Rattle.graph.proofs.list_graph.EdgeListGraph.put.Needs as need
 
 pub returns-in-Some : need.returns-in-Some

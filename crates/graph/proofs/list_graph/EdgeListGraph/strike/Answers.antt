@@ -6,7 +6,7 @@ use Rattle.graph.specs.declared.edges.Edge.{Edge}
 use Rattle.graph.specs.Edges.{among, blank}
 use Rattle.graph.specs.Lists.{list-graph}
 use Rattle.graph.proofs.Among.{among-at, among-remove}
-use Rattle.graph.proofs.Changes.{LegalEdge, strike-taken}
+use Rattle.graph.proofs.OneEdge.{LegalEdge, strike-taken}
 use Rattle.graph.proofs.list_graph.EdgeListGraph.strike.Needs as need
 
 pub returns-in-Some : need.returns-in-Some

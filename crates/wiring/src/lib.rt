@@ -1,0 +1,12 @@
+// Wiring files: their records, what a file leaves standing, and the lines that are printed of it.
+mod faults;
+mod phases;
+mod reader;
+mod records;
+
+pub use faults::Fault;
+pub use faults::FaultFromGraphFault;
+pub use faults::FaultFromSizeFault;
+pub use phases::Phase;
+pub use reader::Reader;
+pub use records::Record;
