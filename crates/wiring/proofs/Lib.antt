@@ -1,2 +1,4 @@
 pub mod Parsing
 pub mod Next
+pub mod Rising
+pub mod Steps

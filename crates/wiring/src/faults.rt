@@ -33,3 +33,10 @@ pub impl From<GraphFault> for Fault as FaultFromGraphFault {
         Fault::TurnedAway(f)
     }
 }
+
+// A record that is refused, by its offset in the file, and why.
+#[derive(Clone, Copy)]
+pub struct Refusal {
+    pub fault: Fault,
+    pub at: usize,
+}

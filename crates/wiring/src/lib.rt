@@ -1,12 +1,16 @@
 // Wiring files: their records, what a file leaves standing, and the lines that are printed of it.
 mod faults;
+mod listing;
+mod loading;
 mod phases;
 mod reader;
 mod records;
 
 pub use faults::Fault;
 pub use faults::FaultFromGraphFault;
+pub use faults::Refusal;
 pub use faults::FaultFromSizeFault;
+pub use listing::wires;
 pub use phases::Phase;
 pub use reader::Reader;
 pub use records::Record;
