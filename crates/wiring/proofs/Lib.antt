@@ -2,3 +2,4 @@ pub mod Parsing
 pub mod Next
 pub mod Rising
 pub mod Steps
+pub mod Begin

@@ -3,3 +3,4 @@ pub mod Records
 pub mod Order
 pub mod Listing
 pub mod Reading
+pub mod Surveys

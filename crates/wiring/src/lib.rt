@@ -2,9 +2,11 @@
 mod faults;
 mod listing;
 mod loading;
+mod opening;
 mod phases;
 mod reader;
 mod records;
+mod surveys;
 
 pub use faults::Fault;
 pub use faults::FaultFromGraphFault;
@@ -14,3 +16,5 @@ pub use listing::wires;
 pub use phases::Phase;
 pub use reader::Reader;
 pub use records::Record;
+pub use surveys::Survey;
+pub use surveys::survey_file;
