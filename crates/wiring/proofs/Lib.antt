@@ -3,3 +3,4 @@ pub mod Next
 pub mod Rising
 pub mod Steps
 pub mod Begin
+pub mod Texts

@@ -4,3 +4,4 @@ pub mod Order
 pub mod Listing
 pub mod Reading
 pub mod Surveys
+pub mod Lines
