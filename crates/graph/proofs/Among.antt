@@ -41,7 +41,7 @@ pub distinct-from-apart : (xs : List Edge) (n : ℕ)
 distinct-from-apart xs n h j l =
     ⊎-elim
     (λ (t : holds (among xs j) (getD xs j blank) ≡ true).
-        let s = decides-among xs j (getD xs j blank) .0 t in absurd (h (s .0) j l (s .1) (s .2)))
+    let s = decides-among xs j (getD xs j blank) .0 t in absurd (h (s .0) j l (s .1) (s .2)))
     (λ f. f)
     (cases-bool (holds (among xs j) (getD xs j blank)))
 
@@ -71,17 +71,17 @@ module _ (xs : List Edge) (n : ℕ) (y : Edge) (room : n < length xs) where
   distinct-append d new i k =
       ⊎-elim
       (λ (e : i ≡ n).
-          let at : getD (set xs n y) n blank ≡ y = getD-set-same xs n y blank room in
-          let front : holds (among (set xs n y) n) y ≡ false = among-below xs n y n (y .from) (y .label) (y .to) (omega arith) ∙ new in
-          let here : holds (among (set xs n y) n) (getD (set xs n y) n blank) ≡ false
-              = subst (λ (z : Edge). holds (among (set xs n y) n) z ≡ false) (sym at) front in
-          subst (λ (j : ℕ). holds (among (set xs n y) j) (getD (set xs n y) j blank) ≡ false) (sym e) here)
+      let at : getD (set xs n y) n blank ≡ y = getD-set-same xs n y blank room in
+      let front : holds (among (set xs n y) n) y ≡ false = among-below xs n y n (y .from) (y .label) (y .to) (omega arith) ∙ new in
+      let here : holds (among (set xs n y) n) (getD (set xs n y) n blank) ≡ false
+      = subst (λ (z : Edge). holds (among (set xs n y) n) z ≡ false) (sym at) front in
+      subst (λ (j : ℕ). holds (among (set xs n y) j) (getD (set xs n y) j blank) ≡ false) (sym e) here)
       (λ (ne : i ≡ n → ⊥).
-          let x : Edge = getD xs i blank in
-          let at : getD (set xs n y) i blank ≡ x = getD-set-other xs n i y blank ne in
-          let front : holds (among (set xs n y) i) x ≡ false
-              = among-below xs n y i (x .from) (x .label) (x .to) (omega arith) ∙ d i (omega arith) in
-          subst (λ (z : Edge). holds (among (set xs n y) i) z ≡ false) (sym at) front)
+      let x : Edge = getD xs i blank in
+      let at : getD (set xs n y) i blank ≡ x = getD-set-other xs n i y blank ne in
+      let front : holds (among (set xs n y) i) x ≡ false
+      = among-below xs n y i (x .from) (x .label) (x .to) (omega arith) ∙ d i (omega arith) in
+      subst (λ (z : Edge). holds (among (set xs n y) i) z ≡ false) (sym at) front)
       (cases-eq i n)
 
 -- the last edge moved into place i
@@ -102,26 +102,26 @@ module _ (xs : List Edge) (n i : ℕ) (within : n ≤ length xs) (l : i < n) (d 
   distinct-remove =
       distinct-from-apart ys (n - 1)
       (λ a b lb la e.
-          ⊎-elim
-          (λ (p : a ≡ i). apart-xs (n - 1) b (omega arith) (omega arith) (omega arith)
-              (sym at-i ∙ ap (λ k. getD ys k blank) (sym p) ∙ e ∙ at-j b (omega arith)))
-          (λ (p : a ≡ i → ⊥).
-              ⊎-elim
-              (λ (q : b ≡ i). apart-xs a (n - 1) (omega arith) (omega arith) (omega arith)
-                  (sym (at-j a p) ∙ e ∙ ap (λ k. getD ys k blank) q ∙ at-i))
-              (λ (q : b ≡ i → ⊥). apart-xs a b (omega arith) (omega arith) (omega arith) (sym (at-j a p) ∙ e ∙ at-j b q))
-              (cases-eq b i))
-          (cases-eq a i))
+      ⊎-elim
+      (λ (p : a ≡ i). apart-xs (n - 1) b (omega arith) (omega arith) (omega arith)
+      (sym at-i ∙ ap (λ k. getD ys k blank) (sym p) ∙ e ∙ at-j b (omega arith)))
+      (λ (p : a ≡ i → ⊥).
+      ⊎-elim
+      (λ (q : b ≡ i). apart-xs a (n - 1) (omega arith) (omega arith) (omega arith)
+      (sym (at-j a p) ∙ e ∙ ap (λ k. getD ys k blank) q ∙ at-i))
+      (λ (q : b ≡ i → ⊥). apart-xs a b (omega arith) (omega arith) (omega arith) (sym (at-j a p) ∙ e ∙ at-j b q))
+      (cases-eq b i))
+      (cases-eq a i))
 
   stays : (e x : Edge) → getD xs i blank ≡ e → (e ≡ x → ⊥) × Stands xs n x → Stands ys (n - 1) x
   stays e x at p =
       let s = p .1 in let lt = s .1 in
       ⊎-elim
       (λ (q : s .0 ≡ n - 1).
-          let ni : i ≡ n - 1 → ⊥ = λ o. p .0 (sym at ∙ ap (λ k. getD xs k blank) (o ∙ sym q) ∙ s .2) in
-          (i, omega arith, at-i ∙ ap (λ k. getD xs k blank) (sym q) ∙ s .2))
+      let ni : i ≡ n - 1 → ⊥ = λ o. p .0 (sym at ∙ ap (λ k. getD xs k blank) (o ∙ sym q) ∙ s .2) in
+      (i, omega arith, at-i ∙ ap (λ k. getD xs k blank) (sym q) ∙ s .2))
       (λ (q : s .0 ≡ n - 1 → ⊥).
-          (s .0, omega arith, at-j (s .0) (λ o. p .0 (sym at ∙ ap (λ k. getD xs k blank) (sym o) ∙ s .2)) ∙ s .2))
+      (s .0, omega arith, at-j (s .0) (λ o. p .0 (sym at ∙ ap (λ k. getD xs k blank) (sym o) ∙ s .2)) ∙ s .2))
       (cases-eq (s .0) (n - 1))
 
   stood : (e x : Edge) → getD xs i blank ≡ e → Stands ys (n - 1) x → (e ≡ x → ⊥) × Stands xs n x
@@ -129,11 +129,11 @@ module _ (xs : List Edge) (n i : ℕ) (within : n ≤ length xs) (l : i < n) (d 
       let lt = s .1 in
       ⊎-elim
       (λ (q : s .0 ≡ i).
-          let here : getD xs (n - 1) blank ≡ x = sym at-i ∙ ap (λ k. getD ys k blank) (sym q) ∙ s .2 in
-          (λ o. apart-xs i (n - 1) l (omega arith) (omega arith) (at ∙ o ∙ sym here), (n - 1, omega arith, here)))
+      let here : getD xs (n - 1) blank ≡ x = sym at-i ∙ ap (λ k. getD ys k blank) (sym q) ∙ s .2 in
+      (λ o. apart-xs i (n - 1) l (omega arith) (omega arith) (at ∙ o ∙ sym here), (n - 1, omega arith, here)))
       (λ (q : s .0 ≡ i → ⊥).
-          let here : getD xs (s .0) blank ≡ x = sym (at-j (s .0) q) ∙ s .2 in
-          (λ o. apart-xs i (s .0) l (omega arith) (λ z. q (sym z)) (at ∙ o ∙ sym here), (s .0, omega arith, here)))
+      let here : getD xs (s .0) blank ≡ x = sym (at-j (s .0) q) ∙ s .2 in
+      (λ o. apart-xs i (s .0) l (omega arith) (λ z. q (sym z)) (at ∙ o ∙ sym here), (s .0, omega arith, here)))
       (cases-eq (s .0) i)
 
   not-cond : (x y : Bool) → (not x && y) ≡ cond x false y
@@ -144,7 +144,7 @@ module _ (xs : List Edge) (n i : ℕ) (within : n ≤ length xs) (l : i < n) (d 
   among-remove e at u a v =
       same-from-decides _ _ (decides-among ys (n - 1) (edge u a v))
       (decides-like _ (stays e (edge u a v) at) (stood e (edge u a v) at)
-          (decides-and _ _ (decides-not _ (decides-is e u a v)) (decides-among xs n (edge u a v))))
+      (decides-and _ _ (decides-not _ (decides-is e u a v)) (decides-among xs n (edge u a v))))
       ∙ not-cond (is e u a v) (among xs n u a v)
 
 -- e stands at place i

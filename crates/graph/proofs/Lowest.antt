@@ -37,29 +37,30 @@ module _ (E E′ : Edges) (y : Edge) (h : (u a v : ℕ) → E′ u a v ≡ (is y
   into : (r : Option ℕ) → y ≡ edge u a (y .to) → b ≤ y .to → Lowest E u a b r → Lowest E′ u a b (lowered r (y .to))
   into None p l k = (l, at-end p, λ v i j. lacks v (below v j) (k v i))
   into (Some w) p l k =
-      let low = k .0 in
-      (omega arith,
-       ⊎-elim
-       (λ (s : w < y .to). let m : min w (y .to) ≡ w = omega arith in subst (λ (z : ℕ). E′ u a z ≡ true) (sym m) (stays w (k .1)))
-       (λ (s : y .to ≤ w). let m : min w (y .to) ≡ y .to = omega arith in subst (λ (z : ℕ). E′ u a z ≡ true) (sym m) (at-end p))
-       (cases-lt w (y .to)),
-       λ v i j. lacks v (below v (omega arith)) (k .2 v i (omega arith)))
+      let low = k .0 in (
+        omega arith,
+        ⊎-elim
+            (λ (s : w < y .to). let m : min w (y .to) ≡ w = omega arith in subst (λ (z : ℕ). E′ u a z ≡ true) (sym m) (stays w (k .1)))
+            (λ (s : y .to ≤ w). let m : min w (y .to) ≡ y .to = omega arith in subst (λ (z : ℕ). E′ u a z ≡ true) (sym m) (at-end p))
+            (cases-lt w (y .to)),
+        λ v i j. lacks v (below v (omega arith)) (k .2 v i (omega arith)),
+      )
 
   pub lowest-more : (r : Option ℕ) → Lowest E u a b r → Lowest E′ u a b (cond (leads y u a b) (lowered r (y .to)) r)
   lowest-more r l =
       ⊎-elim
       (λ (t : leads y u a b ≡ true).
-          let p = and-parts _ _ t in
-          let q = and-parts _ _ (p .1) in
-          let same : y ≡ edge u a (y .to) = edge-from-at y u a (y .to) (eqb-true (y .from) u (p .0), eqb-true (y .label) a (q .0), refl) in
-          subst (λ (z : Bool). Lowest E′ u a b (cond z (lowered r (y .to)) r)) (sym t) (into r same (leb-true b (y .to) (q .1)) l))
+      let p = and-parts _ _ t in
+      let q = and-parts _ _ (p .1) in
+      let same : y ≡ edge u a (y .to) = edge-from-at y u a (y .to) (eqb-true (y .from) u (p .0), eqb-true (y .label) a (q .0), refl) in
+      subst (λ (z : Bool). Lowest E′ u a b (cond z (lowered r (y .to)) r)) (sym t) (into r same (leb-true b (y .to) (q .1)) l))
       (λ (t : leads y u a b ≡ false).
-          subst (λ (z : Bool). Lowest E′ u a b (cond z (lowered r (y .to)) r)) (sym t)
-          (skip r
-              (λ v k e.
-                  let f : y .from ≡ u = ap (λ (x : Edge). x .from) e in
-                  let g : y .label ≡ a = ap (λ (x : Edge). x .label) e in
-                  let m : y .to ≡ v = ap (λ (x : Edge). x .to) e in
-                  both-ways _ t (and-from _ _ (eq-eqb (y .from) u f) (and-from _ _ (eq-eqb (y .label) a g) (le-leb b (y .to) (omega arith)))))
-              l))
+      subst (λ (z : Bool). Lowest E′ u a b (cond z (lowered r (y .to)) r)) (sym t)
+      (skip r
+      (λ v k e.
+      let f : y .from ≡ u = ap (λ (x : Edge). x .from) e in
+      let g : y .label ≡ a = ap (λ (x : Edge). x .label) e in
+      let m : y .to ≡ v = ap (λ (x : Edge). x .to) e in
+      both-ways _ t (and-from _ _ (eq-eqb (y .from) u f) (and-from _ _ (eq-eqb (y .label) a g) (le-leb b (y .to) (omega arith)))))
+      l))
       (cases-bool (leads y u a b))

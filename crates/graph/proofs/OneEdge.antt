@@ -51,9 +51,9 @@ pub legal-changed : (n q : ℕ) (e : Edge) (b : Bool) (E E′ : Edges) → Legal
 legal-changed n q e b E E′ fit change old x t =
     ⊎-elim
     (λ (s : is e (x .from) (x .label) (x .to) ≡ true).
-        subst (LegalEdge n q) (decides-is e (x .from) (x .label) (x .to) .0 s) fit)
+    subst (LegalEdge n q) (decides-is e (x .from) (x .label) (x .to) .0 s) fit)
     (λ (s : is e (x .from) (x .label) (x .to) ≡ false).
-        old x (let k = change (x .from) (x .label) (x .to) in cc))
+    old x (let k = change (x .from) (x .label) (x .to) in cc))
     (cases-bool (is e (x .from) (x .label) (x .to)))
 
 -- the tables of refusals at a legal edge
@@ -78,7 +78,7 @@ module _ (g : Graph) (e : Edge) (fit : LegalEdge (g .nodes) (g .labels) e) where
       let a = from-low in let b = label-low in let c = to-low in
       let room = lt-leb (g .capacity) (size g) l in
       elim (holds (g .has) e) as (λ h. first ((1, leb (g .nodes) (e .from) || leb (g .nodes) (e .to)) ∷ ((2, leb (g .labels) (e .label)) ∷ ((3, not h && leb (g .capacity) (size g)) ∷ []))) ≡ None)
-          [ true ↦ cc | false ↦ cc ]
+      [ true ↦ cc | false ↦ cc ]
 
   pub put-full : holds (g .has) e ≡ false → g .capacity ≤ size g → first (put-refusals g e) ≡ Some 3
   put-full t l =

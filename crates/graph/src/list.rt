@@ -33,7 +33,10 @@ impl Sizes {
         if labels < 1 || labels > 26 {
             return Err(SizeFault::Labels);
         }
-        Ok(Sizes { nodes, labels: labels as LabelId })
+        Ok(Sizes {
+            nodes,
+            labels: labels as LabelId,
+        })
     }
 }
 

@@ -25,7 +25,12 @@ impl<'a> EdgeList<'a> {
         ensures memory { λ r. ⌜ r .slots .now ≡ now (slots .entry) ⌝ }
         ensures lender { λ r. ⌜ name (r .slots) ≡ name (slots .entry) ⌝ }
     {
-        EdgeList { slots, len: 0, nodes: sizes.nodes, labels: sizes.labels }
+        EdgeList {
+            slots,
+            len: 0,
+            nodes: sizes.nodes,
+            labels: sizes.labels,
+        }
     }
 }
 
@@ -99,7 +104,13 @@ pub impl<'a> Graph for EdgeList<'a> as EdgeListGraph {
 }
 
 // The lower of the best so far and the end of `e`, if `e` leads from the node under the label to the bound or beyond.
-fn lower(best: Option<NodeId>, e: Edge, node: NodeId, label: LabelId, bound: NodeId) -> Option<NodeId>
+fn lower(
+    best: Option<NodeId>,
+    e: Edge,
+    node: NodeId,
+    label: LabelId,
+    bound: NodeId,
+) -> Option<NodeId>
     ensures { λ r. ⌜ r ≡ cond (leads e node label bound) (lowered best (e .to)) best ⌝ }
 {
     if e.from == node && e.label == label && e.to >= bound {

@@ -22,11 +22,11 @@ pub count-more : (n q f l t : ℕ) (E E′ : Edges) → Legal n q f l t → E f 
 unfolding count
 count-more n q f l t E E′ fit lacks gains rest =
     let at : (u a v : ℕ) → ((u ≡ f) × (a ≡ l) × (v ≡ t) → ⊥) → _≡_ {A = ℕ} (cond (E′ u a v) 1 0) (cond (E u a v) 1 0)
-        = λ u a v ne. ap (λ (b : Bool). cond b 1 0) (rest u a v ne) in
+    = λ u a v ne. ap (λ (b : Bool). cond b 1 0) (rest u a v ne) in
     let on : _≡_ {A = ℕ} (cond (E′ f l t) 1 0) (cond (E f l t) 1 0 + 1)
-        = ap (λ (b : Bool). cond b 1 0) gains ∙ ap (λ (b : Bool). cond b 1 0 + 1) (sym lacks) in
+    = ap (λ (b : Bool). cond b 1 0) gains ∙ ap (λ (b : Bool). cond b 1 0 + 1) (sym lacks) in
     sum-more n f _ _ (fit .0)
     (λ u ne. sum-cong q _ _ (λ a _. sum-cong n _ _ (λ v _. at u a v (λ p. ne (p .0)))))
     (sum-more q l _ _ (fit .1)
-        (λ a ne. sum-cong n _ _ (λ v _. at f a v (λ p. ne (p .1))))
-        (sum-more n t _ _ (fit .2) (λ v ne. at f l v (λ p. ne (p .2))) on))
+    (λ a ne. sum-cong n _ _ (λ v _. at f a v (λ p. ne (p .1))))
+    (sum-more n t _ _ (fit .2) (λ v ne. at f l v (λ p. ne (p .2))) on))

@@ -23,11 +23,11 @@ sum-more zero k f g l h e = absurd (omega arith)
 sum-more (suc n) k f g l h e =
     ⊎-elim
     (λ (p : n ≡ k).
-        let here : g n ≡ f n + 1 = subst (λ (j : ℕ). g j ≡ f j + 1) (sym p) e in
-        let below : sum-below n g ≡ sum-below n f = sum-cong n f g (λ i m. h i (omega arith)) in
-        omega arith)
+    let here : g n ≡ f n + 1 = subst (λ (j : ℕ). g j ≡ f j + 1) (sym p) e in
+    let below : sum-below n g ≡ sum-below n f = sum-cong n f g (λ i m. h i (omega arith)) in
+    omega arith)
     (λ (p : n ≡ k → ⊥).
-        let here : g n ≡ f n = h n p in
-        let below : sum-below n g ≡ sum-below n f + 1 = sum-more n k f g (omega arith) h e in
-        omega arith)
+    let here : g n ≡ f n = h n p in
+    let below : sum-below n g ≡ sum-below n f + 1 = sum-more n k f g (omega arith) h e in
+    omega arith)
     (cases-eq n k)

@@ -63,13 +63,14 @@ module _ (m : ℕ) (bs : List ℕ) (o : ℕ) (p : Phase) (o′ : ℕ) (p′ : Ph
           (λ k. unsized u q f begun fine (said .says) bad)
 
       pub begin-made : (s : ListSizes) → (s .nodes ≡ u) × (s .labels ≡ q) × Within m u q → Opens m bs (Ok (Some s)) o′ p′
-      begin-made s w =
-          (said .loading,
-           λ k g new.
-               let new′ : New g u q k = record {
-                 nodes = new .nodes ∙ w .0;
-                 labels = new .labels ∙ w .1;
-                 capacity = new .capacity;
-                 none = new .none;
-               } in
-               subst (λ (z : ℕ). Reached m k bs z (Some g) []) (sym (said .moved)) (made u q g begun fine (said .says) (w .2) new′))
+      begin-made s w = (
+        said .loading,
+        λ k g new.
+            let new′ : New g u q k = record {
+              nodes = new .nodes ∙ w .0;
+              labels = new .labels ∙ w .1;
+              capacity = new .capacity;
+              none = new .none;
+            } in
+            subst (λ (z : ℕ). Reached m k bs z (Some g) []) (sym (said .moved)) (made u q g begun fine (said .says) (w .2) new′),
+      )

@@ -27,8 +27,8 @@ pub span-within : (s : Bool) (bs : List ℕ) → first (record-refusals s bs) �
 span-within s bs e =
     ⊎-elim
     (λ (t : (ltb (length bs) 4 || ltb (length bs) (span bs)) ≡ true).
-        let z : _≡_ {A = Option ℕ} (Some 15) None = cc in
-        let no′ : _≡_ {A = ℕ} 0 1 = cc in absurd (omega arith))
+    let z : _≡_ {A = Option ℕ} (Some 15) None = cc in
+    let no′ : _≡_ {A = ℕ} 0 1 = cc in absurd (omega arith))
     (λ (f : (ltb (length bs) 4 || ltb (length bs) (span bs)) ≡ false). ltb-false _ _ (or-parts _ _ f .1))
     (cases-bool (ltb (length bs) 4 || ltb (length bs) (span bs)))
 

@@ -38,5 +38,5 @@ module _ (bs : List ℕ) (len k : ℕ) (header : 4 ≤ length bs) (is-len : len 
       let past : ltb (length bs) (span bs) ≡ false = le-ltb (length bs) (span bs) (let q = room in omega arith) in
       let l : length p ≡ word bs 0 = ap length is ∙ ap length (ap (take len) tail) ∙ length-payload ∙ is-len in
       let form : well-formed (kind bs) (word bs 0) ≡ true
-          = ap (λ (n : ℕ). well-formed n (word bs 0)) (sym is-kind) ∙ ap (well-formed k) (sym l) ∙ d .0 in
+      = ap (λ (n : ℕ). well-formed n (word bs 0)) (sym is-kind) ∙ ap (well-formed k) (sym l) ∙ d .0 in
       (cc, subst (λ (q : List ℕ). Says (kind bs) q r) (is ∙ is-payload) (subst (λ (n : ℕ). Says n p r) is-kind (d .1)))

@@ -39,11 +39,11 @@ module _ (P Q : Edge → Type 0) (xs : List Edge) (y : Edge) (l : Lists P xs) wh
             let low : i < length xs = omega arith in
             ⊎-elim
             (λ (k : j < length xs).
-                subst (λ (z : Edge). Before (getD ys i blank) z) (sym (at-old j k))
-                (subst (λ (z : Edge). Before z (getD xs j blank)) (sym (at-old i low)) (l .rising i j lt k)))
+            subst (λ (z : Edge). Before (getD ys i blank) z) (sym (at-old j k))
+            (subst (λ (z : Edge). Before z (getD xs j blank)) (sym (at-old i low)) (l .rising i j lt k)))
             (λ (k : length xs ≤ j).
-                subst (λ (z : Edge). Before (getD ys i blank) z) (sym (at-new j (omega arith)))
-                (subst (λ (z : Edge). Before z y) (sym (at-old i low)) (above (getD xs i blank) (l .sound i low))))
+            subst (λ (z : Edge). Before (getD ys i blank) z) (sym (at-new j (omega arith)))
+            (subst (λ (z : Edge). Before z y) (sym (at-old i low)) (above (getD xs i blank) (l .sound i low))))
             (cases-lt j (length xs));
         sound = λ i h.
             ⊎-elim
@@ -85,10 +85,10 @@ next-row-cases u a b e (inr (f, inl p)) =
     ⊎-elim
     (λ (l : e .label < a). inl (inr (f, inl l)))
     (λ (l : a ≤ e .label).
-        ⊎-elim
-        (λ (k : e .to < b). inl (inr (f, inr (omega arith, k))))
-        (λ (k : b ≤ e .to). inr (f, omega arith, k))
-        (cases-lt (e .to) b))
+    ⊎-elim
+    (λ (k : e .to < b). inl (inr (f, inr (omega arith, k))))
+    (λ (k : b ≤ e .to). inr (f, omega arith, k))
+    (cases-lt (e .to) b))
     (cases-lt (e .label) a)
 
 in-row : (g : Graph) (u a b : ℕ) (e : Edge) → InRow u a b e → Wire g e → g .has u a (e .to) ≡ true
@@ -104,29 +104,31 @@ module _ (g : Graph) (u a b : ℕ) (xs : List Edge) (l : Lists (WireBelow g (edg
       (λ e p. (p .0, let q = low .0 in before-more u a b (v + 1) e (omega arith) (p .1)))
       (low .1, inr (refl, inr (refl, omega arith)))
       (λ e q.
-          ⊎-elim
-          (λ (p : Before e (edge u a b)). inl (q .0, p))
-          (λ (p : InRow u a b e × (e .to < v + 1)).
-              ⊎-elim
-              (λ (k : e .to < v).
-                  absurd (both-ways _ (low .2 (e .to) (p .0 .2) k) (in-row g u a b e (p .0) (q .0))))
-              (λ (k : v ≤ e .to).
-                  let f = p .0 .0 in let h = p .0 .1 in let lt = p .1 in
-                  let t : e .to ≡ v = omega arith in
-                  let same : edge u a v ≡ edge (e .from) (e .label) (e .to) = cc in inr same)
-              (cases-lt (e .to) v))
-          (row-cases u a b (v + 1) e (q .1)))
+      ⊎-elim
+      (λ (p : Before e (edge u a b)). inl (q .0, p))
+      (λ (p : InRow u a b e × (e .to < v + 1)).
+      ⊎-elim
+      (λ (k : e .to < v).
+      absurd (both-ways _ (low .2 (e .to) (p .0 .2) k) (in-row g u a b e (p .0) (q .0))))
+      (λ (k : v ≤ e .to).
+      let f = p .0 .0 in let h = p .0 .1 in let lt = p .1 in
+      let t : e .to ≡ v = omega arith in
+      let same : edge u a v ≡ edge (e .from) (e .label) (e .to) = cc in inr same)
+      (cases-lt (e .to) v))
+      (row-cases u a b (v + 1) e (q .1)))
 
   -- the end of the row
   pub row-all : Lowest (g .has) u a b None → Lists (WireBelow g (edge u (a + 1) 0)) xs
   row-all none =
       lists-same (WireBelow g (edge u a b)) (WireBelow g (edge u (a + 1) 0)) xs
       (λ e p. (p .0, before-next-row u a b e (p .1)))
-      (λ e q.
-          (q .0, ⊎-elim
-              (λ p. p)
-              (λ (p : InRow u a b e). absurd (both-ways _ (none (e .to) (p .2)) (in-row g u a b e p (q .0))))
-              (next-row-cases u a b e (q .1))))
+      (λ e q. (
+        q .0,
+        ⊎-elim
+            (λ p. p)
+            (λ (p : InRow u a b e). absurd (both-ways _ (none (e .to) (p .2)) (in-row g u a b e p (q .0))))
+            (next-row-cases u a b e (q .1)),
+      ))
       l
 
 next-node : (u q : ℕ) (e : Edge) → Before e (edge u q 0) → Before e (edge (u + 1) 0 0)

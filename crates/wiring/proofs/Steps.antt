@@ -41,14 +41,14 @@ module _ (bs : List ℕ) (o o′ : ℕ) (p p′ : Phase) (loading : p ≡ Loadin
     step-obeyed h rs′ r n e d made′ =
         let gave = given r n e d in
         let fine : Fine bs o true
-            = (gave .more, subst (λ (q : Phase). first (record-refusals (started q) (drop o bs)) ≡ None) loading (gave .taken)) in
+        = (gave .more, subst (λ (q : Phase). first (record-refusals (started q) (drop o bs)) ≡ None) loading (gave .taken)) in
         subst (λ (z : ℕ). Reached m k bs z (Some h) rs′) (sym (gave .moved)) (obeyed g h r come fine (gave .says) made′)
 
     pub step-stopped : (rs′ : List Refusal) (f : Fault) → Stops bs o p f o′ p′ → rs′ ≡ rs ++ refusal f o ∷ [] → Read m k bs (Some g) rs′
     step-stopped rs′ f e more =
         subst (λ (z : List Refusal). Read m k bs (Some g) z) (sym more)
         (stopped f come (e .more)
-            (subst (λ (q : Phase). first (record-refusals (started q) (drop o bs)) ≡ Some (number f)) loading (e .refused)))
+        (subst (λ (q : Phase). first (record-refusals (started q) (drop o bs)) ≡ Some (number f)) loading (e .refused)))
 
     pub step-ended : (n : Option Record) → n ≡ None → Nexts bs o p (Ok n) o′ p′ → Read m k bs (Some g) rs
     step-ended n e h =

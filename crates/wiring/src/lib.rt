@@ -12,8 +12,8 @@ mod surveys;
 
 pub use faults::Fault;
 pub use faults::FaultFromGraphFault;
-pub use faults::Refusal;
 pub use faults::FaultFromSizeFault;
+pub use faults::Refusal;
 pub use lines::count_line;
 pub use lines::refused_line;
 pub use lines::wire_line;

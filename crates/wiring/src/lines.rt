@@ -48,7 +48,11 @@ pub fn wire_line(heap: Global, e: Edge) -> Result<String, AllocError>
 fn letter_of(label: LabelId) -> char
     ensures { λ r. ⌜ r ≡ letter label ⌝ }
 {
-    if label < 26 { (b'a' + label) as char } else { '?' }
+    if label < 26 {
+        (b'a' + label) as char
+    } else {
+        '?'
+    }
 }
 
 // The line that tells how many edges there are.

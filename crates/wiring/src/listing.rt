@@ -34,14 +34,23 @@ fn push_node<G: Graph>(graph: &G, node: NodeId, list: &mut Vec<Edge>) -> Result<
 }
 
 // Adds the edges from a node under a label to a list of those before them.
-fn push_row<G: Graph>(graph: &G, node: NodeId, label: LabelId, list: &mut Vec<Edge>) -> Result<(), AllocError>
+fn push_row<G: Graph>(
+    graph: &G,
+    node: NodeId,
+    label: LabelId,
+    list: &mut Vec<Edge>,
+) -> Result<(), AllocError>
     ensures { λ r. ⌜ made r (λ _.
         Lists (WireBelow (G·Graph .graph (now (graph .entry))) (edge node label 0)) (vec-items (now (list .entry)))
         → Lists (WireBelow (G·Graph .graph (now (graph .entry))) (edge node (label + 1) 0)) (vec-items (now (list .exit)))) ⌝ }
 {
     let mut bound = 0;
     while let Some(to) = graph.follow(node, label, bound) {
-        list.push(Edge { from: node, label, to })?;
+        list.push(Edge {
+            from: node,
+            label,
+            to,
+        })?;
         bound = to + 1;
     }
     Ok(())

@@ -17,7 +17,11 @@ use graph::apply;
 use std::alloc::AllocError;
 
 // Makes the changes of the records to come, up to the end or to a record that ends the reading, and notes each refusal.
-pub(crate) fn load<G: Graph>(reader: &mut Reader, graph: &mut G, refusals: &mut Vec<Refusal>) -> Result<(), AllocError>
+pub(crate) fn load<G: Graph>(
+    reader: &mut Reader,
+    graph: &mut G,
+    refusals: &mut Vec<Refusal>,
+) -> Result<(), AllocError>
     requires { ⌜ now reader .phase ≡ Loading ⌝ }
     ensures { λ r. ⌜ made r (λ _. (m k : ℕ)
         → Reached m k (now (reader .entry) .bytes .now) (now (reader .entry) .at) (Some (G·Graph .graph (now (graph .entry)))) (vec-items (now (refusals .entry)))
@@ -28,13 +32,17 @@ pub(crate) fn load<G: Graph>(reader: &mut Reader, graph: &mut G, refusals: &mut 
 }
 
 // Makes the change of the record to come, and answers whether the reading goes on.
-fn step<G: Graph>(reader: &mut Reader, graph: &mut G, refusals: &mut Vec<Refusal>) -> Result<bool, AllocError>
+fn step<G: Graph>(
+    reader: &mut Reader,
+    graph: &mut G,
+    refusals: &mut Vec<Refusal>,
+) -> Result<bool, AllocError>
     requires { ⌜ now reader .phase ≡ Loading ⌝ }
     ensures reads { λ r. ⌜ made r (λ on. (m k : ℕ)
         → Reached m k (now (reader .entry) .bytes .now) (now (reader .entry) .at) (Some (G·Graph .graph (now (graph .entry)))) (vec-items (now (refusals .entry)))
         → When on
-            (Reached m k (now (reader .entry) .bytes .now) (now (reader .exit) .at) (Some (G·Graph .graph (now (graph .exit)))) (vec-items (now (refusals .exit))))
-            (Read m k (now (reader .entry) .bytes .now) (Some (G·Graph .graph (now (graph .exit)))) (vec-items (now (refusals .exit))))) ⌝ }
+        (Reached m k (now (reader .entry) .bytes .now) (now (reader .exit) .at) (Some (G·Graph .graph (now (graph .exit)))) (vec-items (now (refusals .exit))))
+        (Read m k (now (reader .entry) .bytes .now) (Some (G·Graph .graph (now (graph .exit)))) (vec-items (now (refusals .exit))))) ⌝ }
     ensures bytes { λ _. ⌜ now (reader .exit) .bytes .now ≡ now (reader .entry) .bytes .now ⌝ }
     ensures phase { λ _. ⌜ now (reader .exit) .phase ≡ Loading ⌝ }
     ensures moves { λ r. ⌜ made r (λ on. on ≡ true → now (reader .entry) .at < now (reader .exit) .at) ⌝ }
@@ -57,7 +65,12 @@ fn step<G: Graph>(reader: &mut Reader, graph: &mut G, refusals: &mut Vec<Refusal
 }
 
 // Makes the change that the record at offset `at` asks for, and notes it where the graph turns it away.
-fn obey<G: Graph>(record: Record, at: usize, graph: &mut G, refusals: &mut Vec<Refusal>) -> Result<(), AllocError>
+fn obey<G: Graph>(
+    record: Record,
+    at: usize,
+    graph: &mut G,
+    refusals: &mut Vec<Refusal>,
+) -> Result<(), AllocError>
     requires { ⌜ admits Loading «record» ≡ true ⌝ }
     ensures { λ r. ⌜ made r (λ _. Obeys
         (G·Graph .graph (now (graph .entry))) («record» .entry) at (vec-items (now (refusals .entry)))
@@ -66,7 +79,10 @@ fn obey<G: Graph>(record: Record, at: usize, graph: &mut G, refusals: &mut Vec<R
     match record {
         Record::Change(change) => {
             if let Err(fault) = apply(graph, change) {
-                refusals.push(Refusal { fault: Fault::TurnedAway(fault), at })?;
+                refusals.push(Refusal {
+                    fault: Fault::TurnedAway(fault),
+                    at,
+                })?;
             }
             Ok(())
         }

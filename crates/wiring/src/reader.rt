@@ -25,7 +25,11 @@ impl<'a> Reader<'a> {
         ensures at { λ r. ⌜ r .at ≡ 0 ⌝ }
         ensures phase { λ r. ⌜ r .phase ≡ Start ⌝ }
     {
-        Reader { bytes, at: 0, phase: Phase::Start }
+        Reader {
+            bytes,
+            at: 0,
+            phase: Phase::Start,
+        }
     }
 
     // The offset of the record to come.

@@ -39,9 +39,20 @@ fn decode(kind: u16, payload: &[u8]) -> Result<Record<'_>, Fault>
     ensures { λ r. ⌜ Decodes kind (now (payload .entry)) r ⌝ }
 {
     match (kind, payload) {
-        (1, [n0, n1, q0, q1]) => Ok(Record::Sizes(u16::from_le_bytes([*n0, *n1]), u16::from_le_bytes([*q0, *q1]))),
-        (2, [f0, f1, label, t0, t1]) => Ok(Record::Change(Change::Put(wire_between([*f0, *f1], *label, [*t0, *t1])))),
-        (3, [f0, f1, label, t0, t1]) => Ok(Record::Change(Change::Strike(wire_between([*f0, *f1], *label, [*t0, *t1])))),
+        (1, [n0, n1, q0, q1]) => Ok(Record::Sizes(
+            u16::from_le_bytes([*n0, *n1]),
+            u16::from_le_bytes([*q0, *q1]),
+        )),
+        (2, [f0, f1, label, t0, t1]) => Ok(Record::Change(Change::Put(wire_between(
+            [*f0, *f1],
+            *label,
+            [*t0, *t1],
+        )))),
+        (3, [f0, f1, label, t0, t1]) => Ok(Record::Change(Change::Strike(wire_between(
+            [*f0, *f1],
+            *label,
+            [*t0, *t1],
+        )))),
         (4, text) => Ok(Record::Query(text)),
         _ => Err(Fault::Malformed),
     }
@@ -51,5 +62,9 @@ fn decode(kind: u16, payload: &[u8]) -> Result<Record<'_>, Fault>
 fn wire_between(from: [u8; 2], label: u8, to: [u8; 2]) -> Edge
     ensures { λ r. ⌜ r ≡ edge (getD from 0 0 + getD from 1 0 * 256) label (getD to 0 0 + getD to 1 0 * 256) ⌝ }
 {
-    Edge { from: u16::from_le_bytes(from), label, to: u16::from_le_bytes(to) }
+    Edge {
+        from: u16::from_le_bytes(from),
+        label,
+        to: u16::from_le_bytes(to),
+    }
 }

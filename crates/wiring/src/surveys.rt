@@ -39,27 +39,45 @@ pub fn survey_file(heap: Global, bytes: &[u8]) -> Result<Survey, AllocError>
         Ok(opened) => opened,
         Err(fault) => {
             refusals.push(Refusal { fault, at: 0 })?;
-            return Ok(Survey { refusals, wires: None });
+            return Ok(Survey {
+                refusals,
+                wires: None,
+            });
         }
     };
     match opened {
         Some(sizes) => {
             let standing = load_list(heap, sizes, &mut reader, &mut refusals)?;
-            Ok(Survey { refusals, wires: Some(standing) })
+            Ok(Survey {
+                refusals,
+                wires: Some(standing),
+            })
         }
-        None => Ok(Survey { refusals, wires: None }),
+        None => Ok(Survey {
+            refusals,
+            wires: None,
+        }),
     }
 }
 
 // Makes the changes of the records to come to a new edge list, and lists the edges that it has then.
-fn load_list(heap: Global, sizes: Sizes, reader: &mut Reader, refusals: &mut Vec<Refusal>) -> Result<Vec<Edge>, AllocError>
+fn load_list(
+    heap: Global,
+    sizes: Sizes,
+    reader: &mut Reader,
+    refusals: &mut Vec<Refusal>,
+) -> Result<Vec<Edge>, AllocError>
     requires { ⌜ now reader .phase ≡ Loading ⌝ }
     ensures { λ r. ⌜ made r (λ v. (m : ℕ)
         → ((g : Meaning) → New g (sizes .nodes) (sizes .labels) 4096
-            → Reached m 4096 (now (reader .entry) .bytes .now) (now (reader .entry) .at) (Some g) (vec-items (now (refusals .entry))))
+        → Reached m 4096 (now (reader .entry) .bytes .now) (now (reader .entry) .at) (Some g) (vec-items (now (refusals .entry))))
         → (g : Meaning) × Read m 4096 (now (reader .entry) .bytes .now) (Some g) (vec-items (now (refusals .exit))) × Lists (Wire g) (vec-items v)) ⌝ }
 {
-    let mut memory = vec![in heap; Edge { from: 0, label: 0, to: 0 }; 4096]?;
+    let mut memory = vec![in heap; Edge {
+        from: 0,
+        label: 0,
+        to: 0
+    }; 4096]?;
     let mut list = EdgeList::new(sizes, memory.as_mut_slice());
     load(reader, &mut list, refusals)?;
     wires(&list, heap)

@@ -11,6 +11,6 @@ pub returns : need.returns
 returns g c =
     let m = g .G·Graph .graph (c .args .graph .now) in
     let all : c .loop-label .label ≡ m .labels
-        = omega (arith, c .loop-label-test .left, c .loop-label .kept .label-end, c .label-count-label-end .ensures) in
+    = omega (arith, c .loop-label-test .left, c .loop-label .kept .label-end, c .label-count-label-end .ensures) in
     λ before. node-all m (c .args .node) (vec-items (c .loop-label .list))
-        (subst (λ (a : ℕ). Lists (WireBelow m (edge (c .args .node) a 0)) (vec-items (c .loop-label .list))) all (c .loop-label .inv before))
+    (subst (λ (a : ℕ). Lists (WireBelow m (edge (c .args .node) a 0)) (vec-items (c .loop-label .list))) all (c .loop-label .inv before))

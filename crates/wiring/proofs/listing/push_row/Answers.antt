@@ -18,12 +18,13 @@ loop-to-again g c =
     let v = c .in-Some .to in
     let low = c .in-Some .ensures tt in
     let fit = m .legal u a v (low .1) in
-    let after = pushed (edge u a v ∷ []) refl (c .in-Continue-push .was tt) (c .push .ensures .items) in
-    (omega (arith, fit .2),
-     λ before. subst (λ (xs : List Edge). Lists (WireBelow m (edge u a (v + 1))) xs) (sym after)
-         (row-more m u a (c .loop-to .bound) (vec-items (c .loop-to .list)) (c .loop-to .inv .1 before) v low))
+    let after = pushed (edge u a v ∷ []) refl (c .in-Continue-push .was tt) (c .push .ensures .items) in (
+      omega (arith, fit .2),
+      λ before. subst (λ (xs : List Edge). Lists (WireBelow m (edge u a (v + 1))) xs) (sym after)
+          (row-more m u a (c .loop-to .bound) (vec-items (c .loop-to .list)) (c .loop-to .inv .1 before) v low),
+    )
 
 pub returns : need.returns
 returns g c =
     λ before. row-all (g .G·Graph .graph (c .args .graph .now)) (c .args .node) (c .args .label) (c .loop-to .bound)
-        (vec-items (c .loop-to .list)) (c .loop-to .inv .1 before) (c .in-rest .ensures tt)
+    (vec-items (c .loop-to .list)) (c .loop-to .inv .1 before) (c .in-rest .ensures tt)

@@ -9,7 +9,7 @@ Inv-loop-to g l =
     let m = g .G·Graph .graph (l .graph) in
     (l .bound ≤ m .nodes)
     × (Lists (WireBelow m (edge (l .node) (l .label) 0)) (vec-items (l .entry .list))
-        → Lists (WireBelow m (edge (l .node) (l .label) (l .bound))) (vec-items (l .list)))
+    → Lists (WireBelow m (edge (l .node) (l .label) (l .bound))) (vec-items (l .list)))
 
 abbrev pub μ-loop-to : given.MeasureT-loop-to
 μ-loop-to g l = g .G·Graph .graph (l .graph) .nodes - l .bound

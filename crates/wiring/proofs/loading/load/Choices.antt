@@ -13,8 +13,8 @@ Inv-loop g l =
     (l .reader .phase ≡ Loading)
     × (l .reader .bytes .now ≡ bs)
     × ((m k : ℕ)
-        → Reached m k bs (l .entry .reader .at) (Some (g .G·Graph .graph (l .entry .graph))) (vec-items (l .entry .refusals))
-        → Reached m k bs (l .reader .at) (Some (g .G·Graph .graph (l .graph))) (vec-items (l .refusals)))
+    → Reached m k bs (l .entry .reader .at) (Some (g .G·Graph .graph (l .entry .graph))) (vec-items (l .entry .refusals))
+    → Reached m k bs (l .reader .at) (Some (g .G·Graph .graph (l .graph))) (vec-items (l .refusals)))
 
 abbrev pub μ-loop : given.MeasureT-loop
 μ-loop g l = length (l .reader .bytes .now) - l .reader .at

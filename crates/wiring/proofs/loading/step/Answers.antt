@@ -40,7 +40,7 @@ returns-in-Continue-obey g c =
       reads = λ l k come. step-obeyed (s .bytes .now) (s .at) (t .at) (s .phase) (t .phase) (c .pre) l k
           (m (c .args .graph .now)) rs come (m (c .obey .last .graph)) rs′ r n is (h .reads)
           (subst (λ (o : ℕ). Obeys (m (c .args .graph .now)) r o rs (m (c .obey .last .graph)) rs′) (c .offset-at .ensures)
-              (c .in-Continue-obey .ensures tt));
+          (c .in-Continue-obey .ensures tt));
       bytes = h .bytes;
       phase = step-loading (s .bytes .now) (s .at) (t .at) (s .phase) (t .phase) (c .pre) r n is (h .reads);
       moves = λ _. step-moves (s .bytes .now) (s .at) (t .at) (s .phase) (t .phase) (c .pre) r n is (h .reads);

@@ -12,6 +12,8 @@ returns c =
     let len = c .from-le-bytes-len in
     let kind = c .from-le-bytes in
     let taken = parse-taken bs (len .result) (kind .result) header (len .ensures) (kind .ensures) (c .if-tail-len .left)
-        (c .split-at .result .0 .now) (c .in-Continue-record .record) (c .split-at .ensures .front) (c .in-Continue-record .ensures tt) in
-    (taken .0, taken .1,
-     c .split-at .ensures .back ∙ rest-is bs (len .result) (kind .result) header (len .ensures) (kind .ensures) (c .if-tail-len .left))
+    (c .split-at .result .0 .now) (c .in-Continue-record .record) (c .split-at .ensures .front) (c .in-Continue-record .ensures tt) in (
+      taken .0,
+      taken .1,
+      c .split-at .ensures .back ∙ rest-is bs (len .result) (kind .result) header (len .ensures) (kind .ensures) (c .if-tail-len .left),
+    )

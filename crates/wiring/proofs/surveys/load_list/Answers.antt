@@ -14,7 +14,7 @@ pub returns : need.returns
 returns c =
     let new = c .new-list .ensures .graph in
     let long : length (c .as-mut-slice .result .now) ≡ 4096
-        = c .as-mut-slice .ensures .len ∙ c .in-Continue-memory .ensures tt .made .1 in
+    = c .as-mut-slice .ensures .len ∙ c .in-Continue-memory .ensures tt .made .1 in
     let empty : New (list-graph (c .new-list .result)) (c .args .sizes .nodes) (c .args .sizes .labels) 4096 = record {
       nodes = new .nodes;
       labels = new .labels;
@@ -23,5 +23,5 @@ returns c =
     } in
     made-weaker (c .wires .result) _ _
     (λ v lists m start.
-        (list-graph (c .load .last .graph), c .in-Continue-load .ensures tt m 4096 (start (list-graph (c .new-list .result)) empty), lists))
+    (list-graph (c .load .last .graph), c .in-Continue-load .ensures tt m 4096 (start (list-graph (c .new-list .result)) empty), lists))
     (c .wires .ensures)

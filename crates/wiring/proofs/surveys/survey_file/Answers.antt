@@ -20,9 +20,10 @@ returns-in-Continue-standing c =
     let same : t .bytes .now ≡ bs = h .bytes ∙ c .new-reader .ensures .bytes in
     let opened = subst (λ (z : Option Sizes). Opens 200 (c .new-reader .result .bytes .now) (Ok z) (t .at) (t .phase)) (c .in-Some .is) (h .opens) in
     let read = c .in-Continue-standing .ensures tt 200
-        (λ g new.
-            subst (λ (z : List Refusal). Reached 200 4096 (t .bytes .now) (t .at) (Some g) z) (sym (c .new-refusals .ensures .items))
-            (subst (λ (z : List ℕ). Reached 200 4096 z (t .at) (Some g) []) (sym (h .bytes)) (opened .1 4096 g new))) in
-    (Some (read .0),
-     subst (λ (z : List ℕ). Read 200 4096 z (Some (read .0)) (vec-items (c .load-list .last .refusals))) same (read .1),
-     read .2)
+    (λ g new.
+    subst (λ (z : List Refusal). Reached 200 4096 (t .bytes .now) (t .at) (Some g) z) (sym (c .new-refusals .ensures .items))
+    (subst (λ (z : List ℕ). Reached 200 4096 z (t .at) (Some g) []) (sym (h .bytes)) (opened .1 4096 g new))) in (
+      Some (read .0),
+      subst (λ (z : List ℕ). Read 200 4096 z (Some (read .0)) (vec-items (c .load-list .last .refusals))) same (read .1),
+      read .2,
+    )

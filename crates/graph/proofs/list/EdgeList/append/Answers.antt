@@ -15,8 +15,16 @@ ghost-self c =
     let e = c .args .e in
     let old = among xs (s .len) in
     let new = among (set xs (s .len) e) (s .len + 1) in
-    let change = among-append xs (s .len) e (c .pre .room) in
-    (s .sized, (simp length-set (omega arith),
-     (legal-changed (s .nodes) (s .labels) e true old new (c .pre .legal) change (s .legal),
-      (distinct-append xs (s .len) e (c .pre .room) (s .distinct) (c .pre .new),
-       (count-put (s .nodes) (s .labels) e old new (c .pre .legal) (c .pre .new) change ∙ ap (λ k. k + 1) (s .counted), tt)))))
+    let change = among-append xs (s .len) e (c .pre .room) in (
+      s .sized,
+      (
+        simp length-set (omega arith),
+        (
+          legal-changed (s .nodes) (s .labels) e true old new (c .pre .legal) change (s .legal),
+          (
+            distinct-append xs (s .len) e (c .pre .room) (s .distinct) (c .pre .new),
+            (count-put (s .nodes) (s .labels) e old new (c .pre .legal) (c .pre .new) change ∙ ap (λ k. k + 1) (s .counted), tt),
+          ),
+        ),
+      ),
+    )

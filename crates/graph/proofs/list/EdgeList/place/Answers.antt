@@ -11,7 +11,7 @@ loop-i-again c =
     let differs = c .if-eq .ensures tt in
     among-skip (c .args .self .now .slots .now) (c .loop-i .i) (c .args .e)
     (λ p. differs
-        (λ d. false≢true (d .1 (ap (λ (x : Edge). x .from) p)))
-        (λ d. false≢true (d .1 (ap (λ (x : Edge). x .label) p)))
-        (λ d. false≢true (d .1 (ap (λ (x : Edge). x .to) p))))
+    (λ d. false≢true (d .1 (ap (λ (x : Edge). x .from) p)))
+    (λ d. false≢true (d .1 (ap (λ (x : Edge). x .label) p)))
+    (λ d. false≢true (d .1 (ap (λ (x : Edge). x .to) p))))
     (c .loop-i .inv)

@@ -21,8 +21,16 @@ ghost-self c =
     let fit = s .legal e there in
     let change = among-remove xs (s .len) i (s .within) (c .pre) (s .distinct) e refl in
     let less = count-strike (s .nodes) (s .labels) e old new fit there change in
-    let was = s .counted in
-    (s .sized, (simp length-set (omega arith),
-     (legal-changed (s .nodes) (s .labels) e false old new fit change (s .legal),
-      (distinct-remove xs (s .len) i (s .within) (c .pre) (s .distinct),
-       (omega (arith, less, was), tt)))))
+    let was = s .counted in (
+      s .sized,
+      (
+        simp length-set (omega arith),
+        (
+          legal-changed (s .nodes) (s .labels) e false old new fit change (s .legal),
+          (
+            distinct-remove xs (s .len) i (s .within) (c .pre) (s .distinct),
+            (omega (arith, less, was), tt),
+          ),
+        ),
+      ),
+    )

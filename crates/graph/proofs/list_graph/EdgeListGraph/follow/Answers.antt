@@ -12,9 +12,9 @@ loop-i-again c =
     let xs = c .args .self .now .slots .now in
     let i = c .loop-i .i in
     let more = lowest-more (among xs i) (among xs (suc i)) (getD xs i blank) (λ u a v. refl)
-        (c .args .node) (c .args .label) (c .args .bound) (c .loop-i .best) (c .loop-i .inv) in
+    (c .args .node) (c .args .label) (c .args .bound) (c .loop-i .best) (c .loop-i .inv) in
     let goal : Lowest (among xs (i + 1)) (c .args .node) (c .args .label) (c .args .bound) (c .lower-best .result)
-        = rw (add-one, c .lower-best .ensures) more in
+    = rw (add-one, c .lower-best .ensures) more in
     goal
 
 pub returns : need.returns

@@ -34,15 +34,19 @@ returns c =
     let fit : LegalEdge (s .nodes) (s .labels) (c .args .e) = (c .if-e-self .left, c .if-e-self-3 .left, c .if-e-self-2 .left) in
     let room : size (list-graph s) < length (s .slots .now) = omega (arith, c .if-self .left, s .counted) in
     record {
-      puts = (put-taken-new (list-graph s) e fit room, c .in-rest .ensures tt, record {
-        nodes = c .append .ensures .nodes;
-        labels = c .append .ensures .labels;
-        capacity = ap length (c .append .ensures .slots) ∙ simp length-set;
-        edges = λ u a v.
-            ap (λ (ys : List Edge). among ys (t .len) u a v) (c .append .ensures .slots)
-            ∙ ap (λ (k : ℕ). among (set (s .slots .now) (s .len) e) k u a v) (c .append .ensures .len)
-            ∙ among-append (s .slots .now) (s .len) e (c .if-self .left) u a v;
-      });
+      puts = (
+        put-taken-new (list-graph s) e fit room,
+        c .in-rest .ensures tt,
+        record {
+          nodes = c .append .ensures .nodes;
+          labels = c .append .ensures .labels;
+          capacity = ap length (c .append .ensures .slots) ∙ simp length-set;
+          edges = λ u a v.
+              ap (λ (ys : List Edge). among ys (t .len) u a v) (c .append .ensures .slots)
+              ∙ ap (λ (k : ℕ). among (set (s .slots .now) (s .len) e) k u a v) (c .append .ensures .len)
+              ∙ among-append (s .slots .now) (s .len) e (c .if-self .left) u a v;
+        },
+      );
       memory = c .append .ensures .slots;
       lender = c .append .ensures .lender;
     }

@@ -18,15 +18,19 @@ returns-in-Some c =
     let i = c .in-Some .i in
     let fit : LegalEdge (s .nodes) (s .labels) (c .args .e) = (c .if-e-self .left, c .if-e-self-3 .left, c .if-e-self-2 .left) in
     record {
-      strikes = (strike-taken (list-graph s) e fit, among-at (s .slots .now) (s .len) i e (h .0) (h .1), record {
-        nodes = c .remove .ensures .nodes;
-        labels = c .remove .ensures .labels;
-        capacity = ap length (c .remove .ensures .slots) ∙ simp length-set;
-        edges = λ u a v.
-            ap (λ (ys : List Edge). among ys (t .len) u a v) (c .remove .ensures .slots)
-            ∙ ap (λ (k : ℕ). among (set (s .slots .now) i (getD (s .slots .now) (s .len - 1) blank)) k u a v) (c .remove .ensures .len)
-            ∙ among-remove (s .slots .now) (s .len) i (s .within) (h .0) (s .distinct) e (h .1) u a v;
-      });
+      strikes = (
+        strike-taken (list-graph s) e fit,
+        among-at (s .slots .now) (s .len) i e (h .0) (h .1),
+        record {
+          nodes = c .remove .ensures .nodes;
+          labels = c .remove .ensures .labels;
+          capacity = ap length (c .remove .ensures .slots) ∙ simp length-set;
+          edges = λ u a v.
+              ap (λ (ys : List Edge). among ys (t .len) u a v) (c .remove .ensures .slots)
+              ∙ ap (λ (k : ℕ). among (set (s .slots .now) i (getD (s .slots .now) (s .len - 1) blank)) k u a v) (c .remove .ensures .len)
+              ∙ among-remove (s .slots .now) (s .len) i (s .within) (h .0) (s .distinct) e (h .1) u a v;
+        },
+      );
       memory = (i, h .0, h .1, c .remove .ensures .slots);
       lender = c .remove .ensures .lender;
     }

@@ -1,0 +1,5 @@
+// Tests of the libraries on hand-worked examples.
+#[cfg(test)]
+mod files;
+#[cfg(test)]
+mod lists;
