@@ -7,13 +7,14 @@ use native.Mathlib.Omega.{arith}
 use mathlib.Core.List.{[], _∷_}
 use lib.Dec.{leb}
 use Rattle.std.specs.declared.option.Option.the-variants.{Some, None}
-use Rattle.std.proofs.shelf.Tests.{cases-bool, lt-leb, le-leb, both-ways}
+use Rattle.std.proofs.shelf.Tests.{cases-bool, lt-leb, le-leb, and-right}
 use Rattle.meaning.specs.Graphs.{Edges, Legal, Graph, count, size}
 use Rattle.meaning.specs.Refusals.{first}
-use Rattle.meaning.proofs.Counts.{count-more, count-cong}
+use Rattle.meaning.proofs.Counts.{count-more}
+use Rattle.meaning.proofs.Tables.{first-behind}
 use Rattle.graph.specs.declared.edges.Edge.{Edge}
 use Rattle.graph.specs.Edges.{edge, is, holds}
-use Rattle.graph.specs.Calls.{put-refusals, strike-refusals}
+use Rattle.graph.specs.Calls.{put-refusals, edge-refusals, room-refusals}
 use Rattle.graph.proofs.Same.{decides-is, is-self, is-other}
 
 -- E′ is E but for e, which it has exactly if b
@@ -56,31 +57,19 @@ legal-changed n q e b E E′ fit change old x t =
     old x (let k = change (x .from) (x .label) (x .to) in cc))
     (cases-bool (is e (x .from) (x .label) (x .to)))
 
--- the tables of refusals at a legal edge
-module _ (g : Graph) (e : Edge) (fit : LegalEdge (g .nodes) (g .labels) e) where
-  from-low : leb (g .nodes) (e .from) ≡ false
-  from-low = lt-leb (g .nodes) (e .from) (fit .0)
+-- the table of refusals of put, from that of an edge
+module _ (g : Graph) (e : Edge) where
+  module _ (fine : first (edge-refusals (g .nodes) (g .labels) e) ≡ None) where
+    pub put-taken-there : holds (g .has) e ≡ true → first (put-refusals g e) ≡ None
+    put-taken-there t = first-behind (edge-refusals (g .nodes) (g .labels) e) (room-refusals g e) fine ∙ (cc)
 
-  label-low : leb (g .labels) (e .label) ≡ false
-  label-low = lt-leb (g .labels) (e .label) (fit .1)
+    pub put-taken-new : size g < g .capacity → first (put-refusals g e) ≡ None
+    put-taken-new l =
+        let room = lt-leb (g .capacity) (size g) l in
+        first-behind (edge-refusals (g .nodes) (g .labels) e) (room-refusals g e) fine
+        ∙ ap (λ (b : Bool). cond b (Some 3) None) (and-right (not (holds (g .has) e)) _ room)
 
-  to-low : leb (g .nodes) (e .to) ≡ false
-  to-low = lt-leb (g .nodes) (e .to) (fit .2)
-
-  pub strike-taken : first (strike-refusals g e) ≡ None
-  strike-taken = let a = from-low in let b = label-low in let c = to-low in cc
-
-  pub put-taken-there : holds (g .has) e ≡ true → first (put-refusals g e) ≡ None
-  put-taken-there t = let a = from-low in let b = label-low in let c = to-low in cc
-
-  pub put-taken-new : size g < g .capacity → first (put-refusals g e) ≡ None
-  put-taken-new l =
-      let a = from-low in let b = label-low in let c = to-low in
-      let room = lt-leb (g .capacity) (size g) l in
-      elim (holds (g .has) e) as (λ h. first ((1, leb (g .nodes) (e .from) || leb (g .nodes) (e .to)) ∷ ((2, leb (g .labels) (e .label)) ∷ ((3, not h && leb (g .capacity) (size g)) ∷ []))) ≡ None)
-      [ true ↦ cc | false ↦ cc ]
-
-  pub put-full : holds (g .has) e ≡ false → g .capacity ≤ size g → first (put-refusals g e) ≡ Some 3
-  put-full t l =
-      let a = from-low in let b = label-low in let c = to-low in
-      let full = le-leb (g .capacity) (size g) l in cc
+    pub put-full : holds (g .has) e ≡ false → g .capacity ≤ size g → first (put-refusals g e) ≡ Some 3
+    put-full t l =
+        let full = le-leb (g .capacity) (size g) l in
+        first-behind (edge-refusals (g .nodes) (g .labels) e) (room-refusals g e) fine ∙ (cc)

@@ -1,5 +1,8 @@
 -- What the calls of a graph do.
---     put-refusals g e, strike-refusals g e   the table of refusals
+--     edge-refusals n q e   the table of refusals for an edge in a graph of n nodes and q labels
+--     room-refusals g e     the table of refusals for want of room
+--     strike-refusals g e, put-refusals g e   the tables of refusals of the calls
+--     Checks n q e r     r is the check of an edge by its numbers
 --     Only e b g h       h is g but for the edge e, which it has exactly if b
 --     Puts g e r h       a put of e to g that answers r leaves h
 --     Strikes g e r h    a strike of e from g that answers r leaves h
@@ -7,7 +10,7 @@
 use Prim.Native.Nat.{ℕ, _≤_, _<_}
 use mathlib.Core.Path.{_≡_}
 use mathlib.Core.Bool.{Bool, true, false, cond, not, _&&_, _||_}
-use mathlib.Core.List.{List, [], _∷_}
+use mathlib.Core.List.{List, [], _∷_, _++_}
 use lib.Dec.{leb}
 use Rattle.std.specs.declared.option.Option.the-variants.{Some, None}
 use Rattle.std.specs.declared.result.Result.{Result}
@@ -25,18 +28,17 @@ use Rattle.graph.specs.declared.outcomes.SizeFault.the-variants.{Nodes, Labels
 use Rattle.graph.specs.Edges.{holds, is}
 use Rattle.graph.specs.Numbers.{number}
 
+abbrev pub edge-refusals : ℕ → ℕ → Edge → List (ℕ × Bool)
+edge-refusals n q e = (1, leb n (e .from) || leb n (e .to)) ∷ ((2, leb q (e .label)) ∷ [])
+
 abbrev pub strike-refusals : Graph → Edge → List (ℕ × Bool)
-strike-refusals g e =
-    (1, leb (g .nodes) (e .from) || leb (g .nodes) (e .to))
-    ∷ ((2, leb (g .labels) (e .label))
-    ∷ [])
+strike-refusals g e = edge-refusals (g .nodes) (g .labels) e
+
+abbrev pub room-refusals : Graph → Edge → List (ℕ × Bool)
+room-refusals g e = (3, not (holds (g .has) e) && leb (g .capacity) (size g)) ∷ []
 
 abbrev pub put-refusals : Graph → Edge → List (ℕ × Bool)
-put-refusals g e =
-    (1, leb (g .nodes) (e .from) || leb (g .nodes) (e .to))
-    ∷ ((2, leb (g .labels) (e .label))
-    ∷ ((3, not (holds (g .has) e) && leb (g .capacity) (size g))
-    ∷ []))
+put-refusals g e = edge-refusals (g .nodes) (g .labels) e ++ room-refusals g e
 
 pub record Only (e : Edge) (b : Bool) (g h : Graph) : Type 0 where
   pub nodes : h .nodes ≡ g .nodes
@@ -57,3 +59,7 @@ Strikes g e (Err f) h = (first (strike-refusals g e) ≡ Some (number f)) × (h 
 abbrev pub BadSizes : ℕ → ℕ → ℕ → SizeFault → Type 0
 BadSizes m n q Nodes = (1 ≤ n) × (n ≤ m) → ⊥
 BadSizes m n q Labels = (1 ≤ n) × (n ≤ m) × ((1 ≤ q) × (q ≤ 26) → ⊥)
+
+abbrev pub Checks : ℕ → ℕ → Edge → Result (Unit {0}) Fault → Type 0
+Checks n q e (Ok _) = (first (edge-refusals n q e) ≡ None) × Legal n q (e .from) (e .label) (e .to)
+Checks n q e (Err f) = first (edge-refusals n q e) ≡ Some (number f)

@@ -1,6 +1,6 @@
 ghost use mathlib.Core.Path.{_≡_};
 ghost use Rattle.meaning.specs.Graphs.{Graph as Meaning, size};
-ghost use Rattle.graph.specs.Calls.{Puts, Strikes};
+ghost use Rattle.graph.specs.Calls.{Checks, Puts, Strikes};
 ghost use Rattle.graph.specs.Edges.{Lowest};
 use super::edges::Edge;
 use super::edges::LabelId;
@@ -38,4 +38,17 @@ pub trait Graph {
     // The lowest node of at least `bound` to which an edge leads from `node` under `label`. It takes all numbers.
     fn follow(&self, node: NodeId, label: LabelId, bound: NodeId) -> Option<NodeId>
         ensures { λ r. ⌜ Lowest (graph (now (self .entry)) .has) node label bound r ⌝ };
+}
+
+// Whether an edge joins nodes below `nodes` under a label below `labels`.
+pub fn check_edge(nodes: NodeId, labels: LabelId, e: Edge) -> Result<(), Fault>
+    ensures { λ r. ⌜ Checks nodes labels e r ⌝ }
+{
+    if e.from >= nodes || e.to >= nodes {
+        return Err(Fault::Node);
+    }
+    if e.label >= labels {
+        return Err(Fault::Label);
+    }
+    Ok(())
 }

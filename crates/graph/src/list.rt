@@ -1,6 +1,7 @@
 ghost use mathlib.Core.Path.{_≡_};
 ghost use mathlib.Core.Bool.{true, false};
 ghost use Prim.Native.Nat.{ℕ, _+_, _-_, _≤_, _<_};
+ghost use lib.Dec.{leb};
 ghost use lib.ListN.{length, getD, set};
 ghost use denote.Ref.{name};
 ghost use Rattle.std.specs.declared.option.Option.the-variants.{Some, None};
@@ -66,6 +67,13 @@ impl<'a> EdgeList<'a> {
             }
         }
         None
+    }
+
+    // Whether every place holds an edge.
+    pub(crate) fn is_full(&self) -> bool
+        ensures { λ r. ⌜ r ≡ leb (length (now (self .entry) .slots .now)) (now (self .entry) .len) ⌝ }
+    {
+        self.len >= self.slots.len()
     }
 
     // Writes a new edge into the next place.

@@ -11,6 +11,7 @@ use super::edges::Edge;
 use super::edges::LabelId;
 use super::edges::NodeId;
 use super::interface::Graph;
+use super::interface::check_edge;
 use super::list::EdgeList;
 use super::list::Sizes;
 use super::outcomes::Fault;
@@ -58,16 +59,11 @@ pub impl<'a> Graph for EdgeList<'a> as EdgeListGraph {
         ensures memory { λ r. ⌜ PutIn (now (self .entry) .slots .now) (now (self .entry) .len) e r (now (self .exit) .slots .now) ⌝ }
         ensures lender { λ _. ⌜ name (now (self .exit) .slots) ≡ name (now (self .entry) .slots) ⌝ }
     {
-        if e.from >= self.nodes || e.to >= self.nodes {
-            return Err(Fault::Node);
-        }
-        if e.label >= self.labels {
-            return Err(Fault::Label);
-        }
+        check_edge(self.nodes, self.labels, e)?;
         if let Some(_) = self.place(e) {
             return Ok(Put::There);
         }
-        if self.len >= self.slots.len() {
+        if self.is_full() {
             return Err(Fault::Full);
         }
         self.append(e);
@@ -79,12 +75,7 @@ pub impl<'a> Graph for EdgeList<'a> as EdgeListGraph {
         ensures memory { λ r. ⌜ StruckFrom (now (self .entry) .slots .now) (now (self .entry) .len) e r (now (self .exit) .slots .now) ⌝ }
         ensures lender { λ _. ⌜ name (now (self .exit) .slots) ≡ name (now (self .entry) .slots) ⌝ }
     {
-        if e.from >= self.nodes || e.to >= self.nodes {
-            return Err(Fault::Node);
-        }
-        if e.label >= self.labels {
-            return Err(Fault::Label);
-        }
+        check_edge(self.nodes, self.labels, e)?;
         match self.place(e) {
             Some(i) => {
                 self.remove(i);

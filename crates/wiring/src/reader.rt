@@ -33,7 +33,7 @@ impl<'a> Reader<'a> {
     }
 
     // The offset of the record to come.
-    pub fn offset(&self) -> usize
+    pub(crate) fn offset(&self) -> usize
         ensures { λ r. ⌜ r ≡ now (self .entry) .at ⌝ }
     {
         self.at

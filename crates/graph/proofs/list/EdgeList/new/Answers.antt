@@ -8,15 +8,15 @@ use Rattle.graph.proofs.list.EdgeList.new.Needs as need
 
 pub ghost-result : need.ghost-result
 ghost-result c =
-    let s = c .args .sizes in (
-      s .sized,
+    let sized = c .args .sizes .sized in (
+      search needs,
       (
         omega arith,
         (
           λ e t. absurd (false≢true t),
           (
             λ i l. absurd (omega arith),
-            (count-none (s .nodes) (s .labels) (among (c .args .slots .now) 0) (λ u a v. refl), tt),
+            (count-none _ _ (among (c .args .slots .now) 0) (λ u a v. refl), tt),
           ),
         ),
       ),

@@ -6,7 +6,6 @@ use Rattle.graph.specs.declared.edges.Edge.{Edge}
 use Rattle.graph.specs.Edges.{among, blank}
 use Rattle.graph.specs.Lists.{list-graph}
 use Rattle.graph.proofs.Among.{among-at, among-remove}
-use Rattle.graph.proofs.OneEdge.{LegalEdge, strike-taken}
 use Rattle.graph.proofs.list_graph.EdgeListGraph.strike.Needs as need
 
 pub returns-in-Some : need.returns-in-Some
@@ -16,10 +15,9 @@ returns-in-Some c =
     let e = c .args .e in
     let h = c .in-Some .ensures tt in
     let i = c .in-Some .i in
-    let fit : LegalEdge (s .nodes) (s .labels) (c .args .e) = (c .if-e-self .left, c .if-e-self-3 .left, c .if-e-self-2 .left) in
     record {
       strikes = (
-        strike-taken (list-graph s) e fit,
+        c .in-Continue-check-edge .ensures tt .0,
         among-at (s .slots .now) (s .len) i e (h .0) (h .1),
         record {
           nodes = c .remove .ensures .nodes;
