@@ -2,3 +2,4 @@ pub mod Same
 pub mod OneEdge
 pub mod Among
 pub mod Lowest
+pub mod InTable

@@ -4,3 +4,5 @@ pub mod Calls
 pub mod Changes
 pub mod Memory
 pub mod Lists
+pub mod Rows
+pub mod Tables

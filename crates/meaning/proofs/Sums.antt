@@ -1,7 +1,8 @@
 -- Sums of a function below a number.
-use Prim.Native.Nat.{ℕ, zero, suc, _+_, _≤_, _<_}
+use Prim.Native.Nat.{ℕ, zero, suc, _+_, _*_, _≤_, _<_}
 use mathlib.Core.Path.{_≡_, refl, sym, ap, subst}
 use mathlib.Core.Logic.{⊎-elim}
+use native.Mathlib.Nat.{suc-mul}
 use native.Mathlib.Omega.{arith}
 use Rattle.std.proofs.shelf.Tests.{cases-eq}
 use Rattle.meaning.specs.Graphs.{sum-below}
@@ -31,3 +32,11 @@ sum-more (suc n) k f g l h e =
     let below : sum-below n g ≡ sum-below n f + 1 = sum-more n k f g (omega arith) h e in
     omega arith)
     (cases-eq n k)
+
+pub sum-le : (n b : ℕ) (f : ℕ → ℕ) → ((i : ℕ) → f i ≤ b) → sum-below n f ≤ n * b
+sum-le zero b f h = omega arith
+sum-le (suc n) b f h =
+    let here = h n in
+    let below : sum-below n f ≤ n * b = sum-le n b f h in
+    let p : suc n * b ≡ n * b + b = suc-mul n b in
+    omega arith
