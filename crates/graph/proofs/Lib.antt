@@ -3,3 +3,4 @@ pub mod OneEdge
 pub mod Among
 pub mod Lowest
 pub mod InTable
+pub mod Growth

@@ -2,6 +2,7 @@ pub mod Edges
 pub mod Numbers
 pub mod Calls
 pub mod Changes
+pub mod Runs
 pub mod Memory
 pub mod Lists
 pub mod Rows

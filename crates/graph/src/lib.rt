@@ -5,6 +5,7 @@ mod interface;
 mod list;
 mod list_graph;
 mod outcomes;
+mod replays;
 mod table;
 mod table_graph;
 
@@ -24,6 +25,8 @@ pub use outcomes::Fault;
 pub use outcomes::Put;
 pub use outcomes::SizeFault;
 pub use outcomes::Strike;
+pub use replays::Tally;
+pub use replays::replay;
 pub use table::SmallSizes;
 pub use table::SmallTable;
 pub use table_graph::SmallTableGraph;
