@@ -3,3 +3,5 @@
 mod files;
 #[cfg(test)]
 mod lists;
+#[cfg(test)]
+mod tables;
