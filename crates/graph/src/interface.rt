@@ -3,11 +3,11 @@ ghost use Rattle.meaning.specs.Graphs.{Graph as Meaning, size};
 ghost use Rattle.graph.specs.Calls.{Checks, Puts, Strikes};
 ghost use Rattle.graph.specs.Edges.{Lowest};
 use super::edges::Edge;
-use super::edges::LabelId;
-use super::edges::NodeId;
 use super::outcomes::Fault;
 use super::outcomes::Put;
 use super::outcomes::Strike;
+use meaning::LabelId;
+use meaning::NodeId;
 
 // A labelled directed graph: so many nodes, labels and places for edges, which never change, and a set of edges.
 pub trait Graph {

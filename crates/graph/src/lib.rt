@@ -14,8 +14,6 @@ pub use changes::Changed;
 pub use changes::apply;
 pub use edges::Edge;
 pub use edges::EdgePartialEq;
-pub use edges::LabelId;
-pub use edges::NodeId;
 pub use interface::Graph;
 pub use interface::check_edge;
 pub use list::EdgeList;

@@ -12,9 +12,9 @@ ghost use Rattle.graph.specs.Edges.{among, blank, holds};
 ghost use Rattle.graph.specs.declared.edges.Edge.{Edge};
 use super::edges::Edge;
 use super::edges::EdgePartialEq;
-use super::edges::LabelId;
-use super::edges::NodeId;
 use super::outcomes::SizeFault;
+use meaning::LabelId;
+use meaning::NodeId;
 
 // Checked sizes of an edge list.
 #[derive(Clone, Copy)]

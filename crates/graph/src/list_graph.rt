@@ -8,8 +8,6 @@ ghost use Rattle.graph.specs.Edges.{leads, lowered};
 ghost use Rattle.graph.specs.Lists.{list-graph};
 ghost use Rattle.graph.specs.Memory.{PutIn, StruckFrom};
 use super::edges::Edge;
-use super::edges::LabelId;
-use super::edges::NodeId;
 use super::interface::Graph;
 use super::interface::check_edge;
 use super::list::EdgeList;
@@ -17,6 +15,8 @@ use super::list::Sizes;
 use super::outcomes::Fault;
 use super::outcomes::Put;
 use super::outcomes::Strike;
+use meaning::LabelId;
+use meaning::NodeId;
 
 impl<'a> EdgeList<'a> {
     // A graph without edges over the memory `slots`, which keeps what it holds.

@@ -10,11 +10,11 @@ ghost use Rattle.graph.specs.Calls.{BadSizes};
 ghost use Rattle.graph.specs.Edges.{holds, is};
 ghost use Rattle.graph.specs.Rows.{in-table};
 use super::edges::Edge;
-use super::edges::LabelId;
-use super::edges::NodeId;
 use super::outcomes::SizeFault;
 use bits::cleared;
 use bits::marked;
+use meaning::LabelId;
+use meaning::NodeId;
 
 // Checked sizes of a small table.
 #[derive(Clone, Copy)]

@@ -8,8 +8,6 @@ ghost use Rattle.graph.specs.Rows.{in-table};
 ghost use Rattle.graph.specs.Tables.{table-graph};
 ghost use Rattle.graph.specs.declared.outcomes.Fault.the-variants.{Full};
 use super::edges::Edge;
-use super::edges::LabelId;
-use super::edges::NodeId;
 use super::interface::Graph;
 use super::interface::check_edge;
 use super::outcomes::Fault;
@@ -19,6 +17,8 @@ use super::table::SmallSizes;
 use super::table::SmallTable;
 use bits::has;
 use bits::lowest;
+use meaning::LabelId;
+use meaning::NodeId;
 
 impl SmallTable {
     // A graph without edges.

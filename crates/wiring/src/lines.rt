@@ -6,7 +6,7 @@ ghost use Rattle.wiring.specs.Numbers.{number};
 use super::faults::Fault;
 use super::faults::Refusal;
 use graph::Edge;
-use graph::LabelId;
+use meaning::LabelId;
 use std::alloc::AllocError;
 use std::alloc::Global;
 

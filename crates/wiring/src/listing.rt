@@ -5,8 +5,8 @@ ghost use Rattle.graph.specs.Edges.{edge};
 ghost use Rattle.wiring.specs.Listing.{Lists, Wire, WireBelow};
 use graph::Edge;
 use graph::Graph;
-use graph::LabelId;
-use graph::NodeId;
+use meaning::LabelId;
+use meaning::NodeId;
 use std::alloc::AllocError;
 use std::alloc::Global;
 

@@ -1,0 +1,4 @@
+pub mod Positions
+pub mod Links
+pub mod Joining
+pub mod Starting

@@ -1,0 +1,4 @@
+pub mod Sets
+pub mod Positions
+pub mod Parts
+pub mod Machines
