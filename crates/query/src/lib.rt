@@ -1,0 +1,2 @@
+// Query texts: path expressions, read into position automata.
+mod reader;
