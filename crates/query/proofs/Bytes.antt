@@ -48,24 +48,26 @@ halt-plain h = record { front = h .front; splits = h .splits; tree = plain (h .t
 -- It stops inside brackets.
 pub halt-group : (b mid r : List ℕ) → b ≡ 40 ∷ mid → Halted alternative mid r → Halted unit b r
 halt-group b mid r e h = record {
-    front = 40 ∷ h .front;
-    splits = e ∙ ap (λ x. 40 ∷ x) (h .splits);
-    tree = group (h .tree);
-    more = h .more ++ 41 ∷ [];
-    viable = ap (λ x. 40 ∷ x) (ap (λ x. x ++ 41 ∷ []) (h .viable) ∙ append-assoc (h .front) (h .more) (41 ∷ []));
-    dies = λ d x bs q. h .dies (suc d) x bs q;
-    short = λ d k g q. h .short (suc d) k (omega arith) q }
+  front = 40 ∷ h .front;
+  splits = e ∙ ap (λ x. 40 ∷ x) (h .splits);
+  tree = group (h .tree);
+  more = h .more ++ 41 ∷ [];
+  viable = ap (λ x. 40 ∷ x) (ap (λ x. x ++ 41 ∷ []) (h .viable) ∙ append-assoc (h .front) (h .more) (41 ∷ []));
+  dies = λ d x bs q. h .dies (suc d) x bs q;
+  short = λ d k g q. h .short (suc d) k (omega arith) q;
+}
 
 -- It stops where the bracket should close.
 pub halt-open : (b mid r : List ℕ) → b ≡ 40 ∷ mid → (t : Took alternative mid r) → ((d x : ℕ) (bs : List ℕ) → r ≡ x ∷ bs → move (after (suc d)) (kind x) ≡ dead) → Halted unit b r
 halt-open b mid r e t h = record {
-    front = 40 ∷ text (t .tree);
-    splits = e ∙ ap (λ x. 40 ∷ x) (t .splits);
-    tree = group (t .tree);
-    more = 41 ∷ [];
-    viable = refl;
-    dies = λ d x bs q. runs (t .tree) (suc d) (x ∷ []) ∙ h d x bs q;
-    short = λ d k g q. let o : suc d ≡ k = after-same (sym (run-all (t .tree) (suc d)) ∙ q) in omega arith }
+  front = 40 ∷ text (t .tree);
+  splits = e ∙ ap (λ x. 40 ∷ x) (t .splits);
+  tree = group (t .tree);
+  more = 41 ∷ [];
+  viable = refl;
+  dies = λ d x bs q. runs (t .tree) (suc d) (x ∷ []) ∙ h d x bs q;
+  short = λ d k g q. let o : suc d ≡ k = after-same (sym (run-all (t .tree) (suc d)) ∙ q) in omega arith;
+}
 
 -- What a byte is not.
 pub not-closing : (x d : ℕ) → goes-on alternative (kind x) ≡ false → (x ≡ 41 → ⊥) → move (after (suc d)) (kind x) ≡ dead

@@ -1,2 +1,4 @@
 pub mod Bytes
 pub mod Joints
+pub mod Unique
+pub mod Longest

@@ -35,7 +35,7 @@ pub record Ahead (l inner : Layer) (old new : Reader) (m m′ : Builder) (f f′
   pub within : new .at ≤ length (new .text .now)
   pub grows : old .at ≤ new .at
   pub text : new .text .now ≡ old .text .now
-  pub few : m′ .count ≤ new .at
+  pub few : m′ .count ≤ new .at + 1
   pub stops : Stops inner (rest new)
   pub took : (t : Tree l) (b : ℕ) → Holds m f b (regex t) → Grown l old new m m′ f′ b t
 
@@ -50,7 +50,7 @@ pub record Outcome (l : Layer) (old new : Reader) (m m′ : Builder) (r : Result
   pub within : new .at ≤ length (new .text .now)
   pub grows : old .at ≤ new .at
   pub text : new .text .now ≡ old .text .now
-  pub few : m′ .count ≤ new .at
+  pub few : m′ .count ≤ new .at + 1
   pub reads : Cases r (λ f. Made l (rest old) (rest new) m m′ f) (λ e. (e ≡ new .at) × Halted l (rest old) (rest new))
 
 -- What it is to go over a character that comes next.

@@ -51,7 +51,7 @@ impl Reader<'_> {
 
     // An alternative: sequences joined by |.
     pub(crate) fn alternative(&mut self, out: &mut Builder) -> Result<Part, usize>
-        requires { ⌜ now self .at ≤ length (now (now self .text)) ⌝ ∗ ⌜ now out .count ≤ now self .at ⌝ }
+        requires { ⌜ now self .at ≤ length (now (now self .text)) ⌝ ∗ ⌜ now out .count ≤ now self .at + 1 ⌝ }
         ensures { λ r. ⌜ Outcome Layer.alternative (now (self .entry)) (now (self .exit)) (now (out .entry)) (now (out .exit)) r ⌝ }
     {
         let mut part = self.sequence(out)?;
@@ -64,7 +64,7 @@ impl Reader<'_> {
 
     // A sequence: steps joined by /.
     fn sequence(&mut self, out: &mut Builder) -> Result<Part, usize>
-        requires { ⌜ now self .at ≤ length (now (now self .text)) ⌝ ∗ ⌜ now out .count ≤ now self .at ⌝ }
+        requires { ⌜ now self .at ≤ length (now (now self .text)) ⌝ ∗ ⌜ now out .count ≤ now self .at + 1 ⌝ }
         ensures { λ r. ⌜ Outcome Layer.sequence (now (self .entry)) (now (self .exit)) (now (out .entry)) (now (out .exit)) r ⌝ }
     {
         let mut part = self.step(out)?;
@@ -77,7 +77,7 @@ impl Reader<'_> {
 
     // A step: a unit and then any number of the signs * + ?.
     fn step(&mut self, out: &mut Builder) -> Result<Part, usize>
-        requires { ⌜ now self .at ≤ length (now (now self .text)) ⌝ ∗ ⌜ now out .count ≤ now self .at ⌝ }
+        requires { ⌜ now self .at ≤ length (now (now self .text)) ⌝ ∗ ⌜ now out .count ≤ now self .at + 1 ⌝ }
         ensures { λ r. ⌜ Outcome Layer.step (now (self .entry)) (now (self .exit)) (now (out .entry)) (now (out .exit)) r ⌝ }
     {
         let unit = self.unit(out)?;
@@ -86,7 +86,7 @@ impl Reader<'_> {
 
     // A unit: a small letter, a dot, or an alternative in round brackets.
     fn unit(&mut self, out: &mut Builder) -> Result<Part, usize>
-        requires { ⌜ now self .at ≤ length (now (now self .text)) ⌝ ∗ ⌜ now out .count ≤ now self .at ⌝ }
+        requires { ⌜ now self .at ≤ length (now (now self .text)) ⌝ ∗ ⌜ now out .count ≤ now self .at + 1 ⌝ }
         ensures { λ r. ⌜ Outcome Layer.unit (now (self .entry)) (now (self .exit)) (now (out .entry)) (now (out .exit)) r ⌝ }
     {
         let Some(c) = self.peek() else {
@@ -104,7 +104,11 @@ impl Reader<'_> {
             '(' => {
                 self.at += 1;
                 let part = self.alternative(out)?;
-                if self.eat(')') { Ok(part) } else { Err(self.at) }
+                if self.eat(')') {
+                    Ok(part)
+                } else {
+                    Err(self.at)
+                }
             }
             _ => Err(self.at),
         }
@@ -112,7 +116,7 @@ impl Reader<'_> {
 
     // Any number of the signs * + ?.
     fn signs(&mut self, out: &mut Builder, unit: Part) -> Part
-        requires { ⌜ now self .at ≤ length (now (now self .text)) ⌝ ∗ ⌜ now out .count ≤ now self .at ⌝ }
+        requires { ⌜ now self .at ≤ length (now (now self .text)) ⌝ ∗ ⌜ now out .count ≤ now self .at + 1 ⌝ }
         ensures { λ r. ⌜ Ahead Layer.step Layer.step (now (self .entry)) (now (self .exit)) (now (out .entry)) (now (out .exit)) unit r ⌝ }
     {
         let mut part = unit;

@@ -11,6 +11,7 @@ pub loop-c-again : need.loop-c-again
 loop-c-again c =
     let e = c .in-Some .ensures tt in
     elim (c .match-c .came) [
-        in-42 w ↦ rw (w .out-is, w .part-is) (sign-more 42 _ (c .loop-c .inv) (e .rest) (w .in-42 .is) refl refl (omega (arith, e .end)) (by-star (w .star-part .ensures .count) (w .star-part .ensures .symbols) (w .star-part .ensures .linked) (w .star-part .ensures .part)))
+      | in-42 w ↦ rw (w .out-is, w .part-is) (sign-more 42 _ (c .loop-c .inv) (e .rest) (w .in-42 .is) refl refl (omega (arith, e .end)) (by-star (w .star-part .ensures .count) (w .star-part .ensures .symbols) (w .star-part .ensures .linked) (w .star-part .ensures .part)))
       | in-43 w ↦ rw (w .out-is, w .part-is) (sign-more 43 _ (c .loop-c .inv) (e .rest) (w .in-43 .is) refl refl (omega (arith, e .end)) (by-plus (w .plus-part .ensures .count) (w .plus-part .ensures .symbols) (w .plus-part .ensures .linked) (w .plus-part .ensures .part)))
-      | in-63 w ↦ rw (w .out-is, w .part-is) (sign-more 63 _ (c .loop-c .inv) (e .rest) (w .in-63 .is) refl refl (omega (arith, e .end)) (by-opt (w .optional-part .ensures))) ]
+      | in-63 w ↦ rw (w .out-is, w .part-is) (sign-more 63 _ (c .loop-c .inv) (e .rest) (w .in-63 .is) refl refl (omega (arith, e .end)) (by-opt (w .optional-part .ensures)))
+    ]
