@@ -1,3 +1,5 @@
 pub mod Refusals
 pub mod Graphs
 pub mod Words
+pub mod Firsts
+pub mod Shapes
