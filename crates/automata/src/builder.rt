@@ -88,8 +88,7 @@ impl Builder {
         ensures linked { λ _. ⌜ Linked (now (self .entry) .follow) (now (self .exit) .follow) 64 (a .last) (a .first) ⌝ }
         ensures part { λ r. ⌜ r ≡ repeated a ⌝ }
     {
-        self.link(a.last, a.first);
-        optional(a)
+        optional(self.plus(a))
     }
 
     // The part for `a` once or more.
