@@ -2,3 +2,8 @@ pub mod Grammar
 pub mod Trees
 pub mod Outcome
 pub mod Expressions
+pub mod Queries
+pub mod Viable
+pub mod Limits
+pub mod Readings
+pub mod Texts

@@ -20,7 +20,7 @@ pub struct Reader<'a> {
 
 impl Reader<'_> {
     // The character at the place, or none at the end.
-    fn peek(&self) -> Option<char>
+    pub(crate) fn peek(&self) -> Option<char>
         ensures end { λ r. ⌜ BySome r (length (now (now (self .entry) .text)) ≤ now (self .entry) .at) (λ c. now (self .entry) .at < length (now (now (self .entry) .text))) ⌝ }
         ensures rest { λ r. ⌜ BySome r (drop (now (self .entry) .at) (now (now (self .entry) .text)) ≡ []) (λ c. drop (now (self .entry) .at) (now (now (self .entry) .text)) ≡ c ∷ drop (now (self .entry) .at + 1) (now (now (self .entry) .text))) ⌝ }
     {
