@@ -27,6 +27,8 @@ use Rattle.query.specs.Limits.{Stored, Right, Rightly, Keeps, Rows, Over, Over
 use Rattle.query.specs.declared.drafts.Query.{Query}
 use Rattle.query.specs.Texts.{Too-large, Holds-query, Holds-text}
 use Rattle.query.specs.Readings.{Went, Atomed, Headed, Claused, Adds, Drafted, Wholly}
+use Rattle.query.proofs.Once.{one-query}
+use Rattle.query.proofs.Places.{limits-once}
 use Rattle.query.proofs.Letters.{over-not, over-none}
 use Rattle.query.proofs.Stages.{goes-append, runs-head, runs-atoms, runs-query, query-done, halts-under, dead-goes}
 
@@ -293,10 +295,20 @@ whole-read {xs} {s} {m} {d} i e ge = (
   record { head = i .drafted .head; count = i .drafted .count; rows = i .drafted .rows; over = i .drafted .over; before = later (d .over) (s .at) (length xs) (omega (arith, ap length (i .text), i .within)) (i .drafted .before) },
 )
 
+alike : (h : HeadTree) (s : AtomsTree) (t : QueryTree) → query-text (query-tree h s) ≡ query-text t → (p : ℕ) → Large (query-tree h s) p → Large t p
+alike h s (query-tree k r) e = limits-once h k s r e
+
+alike-back : (h : HeadTree) (s : AtomsTree) (t : QueryTree) → query-text (query-tree h s) ≡ query-text t → (p : ℕ) → Large t p → Large (query-tree h s) p
+alike-back h s (query-tree k r) e = limits-once k h r s (sym e)
+
 pub too-large : {xs : List ℕ} {d : Draft} {p : ℕ} → Wholly xs (Ok d) → d .over ≡ Some p → Too-large xs p
 too-large {xs} {d} {p} w e =
     let k : Lowest (Overs (length (names (w .0)) + 1) (w .1)) (Some p) = subst (Lowest (Overs (length (names (w .0)) + 1) (w .1))) e (w .3 .over) in
-    record { tree = query-tree (w .0) (w .1); text = w .2; large = k .0; first = k .1 }
+    record {
+      query = (query-tree (w .0) (w .1), w .2);
+      large = λ t g. alike (w .0) (w .1) t (w .2 ∙ sym g) p (k .0);
+      first = λ t g q l. k .1 q (alike-back (w .0) (w .1) t (w .2 ∙ sym g) q l);
+    }
 
 right : {a : Atom} {t : AtomTree} → size (inside-regex (inside-of t)) ≤ 63 → Stored a t → Right a t
 right h s = record { stored = s; few = omega (arith, s .recognizes .positions) }
@@ -317,7 +329,8 @@ in-limits {xs} {d} q w e f g c =
       head = w .0;
       atoms = w .1;
       text = w .2;
-      limits = k;
+      only = λ h s g. one-query (w .0) h (w .1) s (w .2 ∙ sym g);
+      limits = λ t g p l. k p (alike-back (w .0) (w .1) t (w .2 ∙ sym g) p l);
       holds = record {
         head = subst (λ (y : Head). Keeps y (names (w .0))) (sym f) (w .3 .head);
         count = c ∙ w .3 .count;

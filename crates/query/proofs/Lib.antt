@@ -5,4 +5,6 @@ pub mod Longest
 pub mod Stages
 pub mod Wholes
 pub mod Letters
+pub mod Once
+pub mod Places
 pub mod Drafting

@@ -1,54 +1,43 @@
 -- What a query text is read as, or why it is refused and where.
-use Prim.Native.Nat.{ℕ, _+_, _≤_, _<_}
+use Prim.Native.Nat.{ℕ, _≤_}
 use mathlib.Core.Path.{_≡_}
-use mathlib.Core.List.{List, [], _∷_, _++_}
-use lib.ListN.{length, drop, getD}
+use mathlib.Core.List.{List}
 use Rattle.std.specs.declared.result.Result.{Result}
 use Rattle.std.specs.Results.{Cases}
-use Rattle.std.specs.declared.option.Option.{Option}
-use Rattle.std.specs.Options.{Cases as BySome}
-use Rattle.query.specs.declared.reader.Reader.{Reader}
 use Rattle.query.specs.declared.drafts.Atom.{Atom}
-use Rattle.query.specs.declared.drafts.Head.{Head}
-use Rattle.query.specs.declared.drafts.Draft.{Draft}
 use Rattle.query.specs.declared.drafts.Query.{Query}
-use Rattle.std.specs.declared.option.Option.the-variants.{Some, None}
 use Rattle.query.specs.declared.drafts.Fault.{Fault}
 use Rattle.query.specs.declared.drafts.Fault.the-variants.{NoQuery, TooLarge}
-use Rattle.automata.specs.declared.builder.Part.{Part}
-use Rattle.automata.specs.declared.builder.Builder.{Builder}
-use Rattle.automata.specs.Parts.{Holds}
-use Rattle.query.specs.Outcome.{rest}
-use Rattle.query.specs.Queries.{Capital, Inside, inside-text, inside-regex, AtomTree, atom-text, AtomsTree, atoms-text, HeadTree, names, QueryTree, query-tree, query-text, Is-query, Longest}
-use Rattle.query.specs.Viable.{Halts, start, at-atom, opened}
-use Rattle.query.specs.Limits.{Stored, Keeps, Rows, Rightly, Over, Overs, Lowest, Large, number, symbols, Sixty-fourth}
+use Rattle.query.specs.Queries.{HeadTree, AtomsTree, names, QueryTree, query-tree, query-text, Is-query, Longest}
+use Rattle.query.specs.Limits.{Keeps, Rightly, Large, number}
+use Rattle.query.specs.Sayings.{Same}
 
--- The record q holds the query of the tree.
+-- The record q holds the query of the tree: its head, and its atoms in the order of the text.
 pub record Holds-query (q : Query) (h : HeadTree) (s : AtomsTree) : Type 0 where
   pub head : Keeps (q .head) (names h)
   pub count : q .count ≡ number s
   pub few : number s ≤ 8
   pub rows : (z : Atom) → Rightly z (q .atoms) s
 
--- The record holds the query of the text xs.
+-- The record holds the query of the text xs, which is within the limits and has no other reading.
 pub record Holds-text (q : Query) (xs : List ℕ) : Type 0 where
   pub head : HeadTree
   pub atoms : AtomsTree
   pub text : query-text (query-tree head atoms) ≡ xs
+  pub only : (k : HeadTree) (r : AtomsTree) → query-text (query-tree k r) ≡ xs → Same head atoms k r
   pub holds : Holds-query q head atoms
-  pub limits : (p : ℕ) → Large (query-tree head atoms) p → ⊥
+  pub limits : (t : QueryTree) → query-text t ≡ xs → (p : ℕ) → Large t p → ⊥
 
 -- The text xs is no query, and the longest beginning that begins one has the length e.
 pub record No-query (xs : List ℕ) (e : ℕ) : Type 0 where
   pub none : Is-query xs → ⊥
   pub place : Longest xs e
 
--- The text xs is a query, and p is the first place where it is over a limit.
+-- The text xs is a query, and p is the first place where it is over a limit, whatever its tree.
 pub record Too-large (xs : List ℕ) (p : ℕ) : Type 0 where
-  pub tree : QueryTree
-  pub text : query-text tree ≡ xs
-  pub large : Large tree p
-  pub first : (q : ℕ) → Large tree q → p ≤ q
+  pub query : Is-query xs
+  pub large : (t : QueryTree) → query-text t ≡ xs → Large t p
+  pub first : (t : QueryTree) → query-text t ≡ xs → (q : ℕ) → Large t q → p ≤ q
 
 -- Why reading a text is refused, and where.
 abbrev pub Refused : List ℕ → Fault → Type 0
