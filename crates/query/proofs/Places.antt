@@ -71,18 +71,21 @@ append-pasts b n (c ∷ l) a p (inr h) =
     let e : b + (length (c .bytes) + 5) + total l ≡ b + (length (c .bytes) + 5 + total l) = omega arith in
     let f : n + 1 + length l ≡ n + suc (length l) = omega arith in
     elim (append-pasts (b + (length (c .bytes) + 5)) (n + 1) l a p h) [
-        inl k ↦ inl (inr k)
-      | inr k ↦ inr (subst (λ (y : ℕ). Past y (n + suc (length l)) a p) e (subst (λ (y : ℕ). Past (b + (length (c .bytes) + 5) + total l) y a p) f k)) ]
+      | inl k ↦ inl (inr k)
+      | inr k ↦ inr (subst (λ (y : ℕ). Past y (n + suc (length l)) a p) e (subst (λ (y : ℕ). Past (b + (length (c .bytes) + 5) + total l) y a p) f k))
+    ]
 
 to-left : (b : ℕ) (s : AtomsTree) (p : ℕ) → Overs b s p → Pasts b 0 (sayings (atoms-of s)) p
 to-left b (one-atom t) p h = inl (past-of b 0 t p h)
 to-left b (more-atoms s t) p h =
     subst (λ (y : List Saying). Pasts b 0 y p) (sym (sayings-append (atoms-of s) (t ∷ []))) (pasts-append b 0 (sayings (atoms-of s)) (saying t) p (elim h [
-        inl k ↦ inl (to-left b s p k)
-      | inr k ↦ inr (subst (λ (y : ℕ). Past y (0 + length (sayings (atoms-of s))) (saying t) p) (place b s) (subst (λ (y : ℕ). Past (b + length (atoms-text s) + 1) y (saying t) p) (count s) (past-of _ _ t p k))) ]))
+      | inl k ↦ inl (to-left b s p k)
+      | inr k ↦ inr (subst (λ (y : ℕ). Past y (0 + length (sayings (atoms-of s))) (saying t) p) (place b s) (subst (λ (y : ℕ). Past (b + length (atoms-text s) + 1) y (saying t) p) (count s) (past-of _ _ t p k)))
+    ]))
   where
     place : (b : ℕ) (s : AtomsTree) → b + length (atoms-text s) + 1 ≡ b + total (sayings (atoms-of s))
     place b s = omega (arith, atoms-total s)
+
     count : (s : AtomsTree) → number s ≡ 0 + length (sayings (atoms-of s))
     count s = omega (arith, atoms-number s)
 
@@ -91,11 +94,13 @@ from-left b (one-atom t) p (inl h) = of-past b 0 t p h
 from-left b (one-atom t) p (inr h) = absurd h
 from-left b (more-atoms s t) p h =
     elim (append-pasts b 0 (sayings (atoms-of s)) (saying t) p (subst (λ (y : List Saying). Pasts b 0 y p) (sayings-append (atoms-of s) (t ∷ [])) h)) [
-        inl k ↦ inl (from-left b s p k)
-      | inr k ↦ inr (of-past _ _ t p (subst (λ (y : ℕ). Past y (number s) (saying t) p) (place b s) (subst (λ (y : ℕ). Past (b + total (sayings (atoms-of s))) y (saying t) p) (count s) k))) ]
+      | inl k ↦ inl (from-left b s p k)
+      | inr k ↦ inr (of-past _ _ t p (subst (λ (y : ℕ). Past y (number s) (saying t) p) (place b s) (subst (λ (y : ℕ). Past (b + total (sayings (atoms-of s))) y (saying t) p) (count s) k)))
+    ]
   where
     place : (b : ℕ) (s : AtomsTree) → b + total (sayings (atoms-of s)) ≡ b + length (atoms-text s) + 1
     place b s = omega (arith, atoms-total s)
+
     count : (s : AtomsTree) → 0 + length (sayings (atoms-of s)) ≡ number s
     count s = omega (arith, atoms-number s)
 
@@ -103,4 +108,4 @@ pub limits-once : (h k : HeadTree) (s r : AtomsTree) → query-text (query-tree 
 limits-once h k s r e p o =
     let c = one-query h k s r e in
     subst (λ (y : List ℕ). Overs (length y + 1) r p) (c .0)
-      (from-left (length (names h) + 1) r p (subst (λ (y : List Saying). Pasts (length (names h) + 1) 0 y p) (c .1) (to-left (length (names h) + 1) s p o)))
+    (from-left (length (names h) + 1) r p (subst (λ (y : List Saying). Pasts (length (names h) + 1) 0 y p) (c .1) (to-left (length (names h) + 1) s p o)))

@@ -9,3 +9,5 @@ mod forms;
 mod lists;
 #[cfg(test)]
 mod tables;
+#[cfg(test)]
+mod texts;
