@@ -1,0 +1,4 @@
+pub mod Ranks
+pub mod Trees
+pub mod Orders
+pub mod Steps
