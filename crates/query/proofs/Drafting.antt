@@ -56,7 +56,7 @@ clause-read {z} {a} {d} {d′} {r} x o f h c k p v = record {
       head = h;
       count = c;
       kept = k;
-      stored = λ z lt. subst (λ (y : Atom). Stored y t) (sym (p z lt)) (o .reads .2);
+      stored = λ w lt. subst (λ (y : Atom). Stored y (z .at) t) (sym (p w lt)) (o .reads .2);
       over = over-cases (Over (z .at) (d .count) t) (d .over) (d′ .over) x v (f t (rest a) (ap (drop (z .at)) (o .went .text) ∙ o .reads .1) (o .reads .2 .recognizes .positions));
     },
   );
@@ -78,9 +78,9 @@ over-within b n (atom-tree u h i v k) p (inr (j, e, s)) =
     let m = length-append (inside-text i) (93 ∷ v ∷ []) in
     (omega arith, omega (arith, s .place))
 
-rows-kept : (z : Atom) (l l′ : List Atom) (s : AtomsTree) → ((i : ℕ) → i < number s → getD l′ i z ≡ getD l i z) → Rows z l s → Rows z l′ s
-rows-kept z l l′ (one-atom t) k h = subst (λ (y : Atom). Stored y t) (sym (k 0 (omega arith))) h
-rows-kept z l l′ (more-atoms s t) k h = (rows-kept z l l′ s (λ i j. k i (omega arith)) (h .0), λ j. subst (λ (y : Atom). Stored y t) (sym (k (number s) (omega arith))) (h .1 j))
+rows-kept : (z : Atom) (l l′ : List Atom) (b : ℕ) (s : AtomsTree) → ((i : ℕ) → i < number s → getD l′ i z ≡ getD l i z) → Rows z l b s → Rows z l′ b s
+rows-kept z l l′ b (one-atom t) k h = subst (λ (y : Atom). Stored y b t) (sym (k 0 (omega arith))) h
+rows-kept z l l′ b (more-atoms s t) k h = (rows-kept z l l′ b s (λ i j. k i (omega arith)) (h .0), λ j. subst (λ (y : Atom). Stored y (b + length (atoms-text s) + 1) t) (sym (k (number s) (omega arith))) (h .1 j))
 
 -- The text so far.
 pub record SoFar (xs : List ℕ) (s : Reader) (d : Draft) : Type 0 where
@@ -117,7 +117,7 @@ whole-begins {xs} {z} {a} {b} {hd} {d₀} {d} q q0 o k e f g = record {
   drafted = record {
     head = subst (λ (y : Head). Keeps y (names h)) (sym (k .reads .2 .head ∙ e)) (o .reads .2);
     count = k .reads .2 .count ∙ ap (λ y. y + 1) f;
-    rows = λ z. subst (λ (y : ℕ). Stored (getD (d .atoms) y z) t) f (k .reads .2 .stored z (omega arith));
+    rows = λ w. subst (λ (y : ℕ). Stored (getD (d .atoms) y w) (length (names h) + 1) t) f (subst (λ (y : ℕ). Stored (getD (d .atoms) (d₀ .count) w) y t) p (k .reads .2 .stored w (omega arith)));
     over = m;
     before = bound (d .over) m;
   };
@@ -161,8 +161,8 @@ whole-more {xs} {s} {m} {n} {d} {d′} i e k = record {
     head = subst (λ (y : Head). Keeps y (names (i .head))) (sym (k .reads .2 .head)) (i .drafted .head);
     count = k .reads .2 .count ∙ ap (λ y. y + 1) (i .drafted .count);
     rows = λ z. (
-      rows-kept z (d .atoms) (d′ .atoms) (i .atoms) (λ j lt. k .reads .2 .kept z j (omega (arith, i .drafted .count))) (i .drafted .rows z),
-      λ lt. subst (λ (y : ℕ). Stored (getD (d′ .atoms) y z) t) (i .drafted .count) (k .reads .2 .stored z (omega (arith, i .drafted .count))),
+      rows-kept z (d .atoms) (d′ .atoms) (length (names (i .head)) + 1) (i .atoms) (λ j lt. k .reads .2 .kept z j (omega (arith, i .drafted .count))) (i .drafted .rows z),
+      λ lt. subst (λ (y : ℕ). Stored (getD (d′ .atoms) y z) (length (names (i .head)) + 1 + length (atoms-text (i .atoms)) + 1) t) (i .drafted .count) (subst (λ (y : ℕ). Stored (getD (d′ .atoms) (d .count) z) y t) p (k .reads .2 .stored z (omega (arith, i .drafted .count)))),
     );
     over = c .0;
     before = c .1;
@@ -310,10 +310,10 @@ too-large {xs} {d} {p} w e =
       first = λ t g q l. k .1 q (alike-back (w .0) (w .1) t (w .2 ∙ sym g) q l);
     }
 
-right : {a : Atom} {t : AtomTree} → size (inside-regex (inside-of t)) ≤ 63 → Stored a t → Right a t
+right : {a : Atom} {b : ℕ} {t : AtomTree} → size (inside-regex (inside-of t)) ≤ 63 → Stored a b t → Right a b t
 right h s = record { stored = s; few = omega (arith, s .recognizes .positions) }
 
-rightly : (b : ℕ) (z : Atom) (l : List Atom) (s : AtomsTree) → ((p : ℕ) → Overs b s p → ⊥) → Rows z l s → (number s ≤ 8) × Rightly z l s
+rightly : (b : ℕ) (z : Atom) (l : List Atom) (s : AtomsTree) → ((p : ℕ) → Overs b s p → ⊥) → Rows z l b s → (number s ≤ 8) × Rightly z l b s
 rightly b z l (one-atom t) n h = (omega arith, right (over-not b 0 t n) h)
 rightly b z l (more-atoms s t) n h =
     let r = rightly b z l s (λ p k. n p (inl k)) (h .0) in
@@ -324,7 +324,7 @@ rightly b z l (more-atoms s t) n h =
 pub in-limits : {xs : List ℕ} {d : Draft} (q : Query) → Wholly xs (Ok d) → d .over ≡ None → q .head ≡ d .head → q .atoms ≡ d .atoms → q .count ≡ d .count → Holds-text q xs
 in-limits {xs} {d} q w e f g c =
     let k : Lowest (Overs (length (names (w .0)) + 1) (w .1)) None = subst (Lowest (Overs (length (names (w .0)) + 1) (w .1))) e (w .3 .over) in
-    let z : Atom = record { first = 0; second = 0; automaton = record { symbols = []; follow = []; accept = 0; size = 0 } } in
+    let z : Atom = record { first = 0; second = 0; place = 0; automaton = record { symbols = []; follow = []; accept = 0; size = 0 } } in
     record {
       head = w .0;
       atoms = w .1;
@@ -335,6 +335,6 @@ in-limits {xs} {d} q w e f g c =
         head = subst (λ (y : Head). Keeps y (names (w .0))) (sym f) (w .3 .head);
         count = c ∙ w .3 .count;
         few = rightly _ z (d .atoms) (w .1) k (w .3 .rows z) .0;
-        rows = λ z. subst (λ (y : List Atom). Rightly z y (w .1)) (sym g) (rightly _ z (d .atoms) (w .1) k (w .3 .rows z) .1);
+        rows = λ z. subst (λ (y : List Atom). Rightly z y (length (names (w .0)) + 1) (w .1)) (sym g) (rightly _ z (d .atoms) (w .1) k (w .3 .rows z) .1);
       };
     }

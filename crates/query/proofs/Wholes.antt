@@ -102,7 +102,7 @@ atom-unended {z} {a} {b} {n} {p} {u} o e i s = record {
   );
 }
 
-pub atom-read : {z a b n p : Reader} {u v : ℕ} {m m′ : Builder} {f : Part} {r : Atom} → Named z a (Ok u) → Eats 91 a b true → (i : Enclosed b n m m′ (Ok f)) → (s : Named n p (Ok v)) → ((t : AtomTree) → u ≡ first-of t → v ≡ second-of t → Holds m′ f 1 (inside-regex (inside-of t)) → Stored r t) → m .count ≡ 1 → Atomed z p (Ok r)
+pub atom-read : {z a b n p : Reader} {u v : ℕ} {m m′ : Builder} {f : Part} {r : Atom} → Named z a (Ok u) → Eats 91 a b true → (i : Enclosed b n m m′ (Ok f)) → (s : Named n p (Ok v)) → ((t : AtomTree) → u ≡ first-of t → v ≡ second-of t → Holds m′ f 1 (inside-regex (inside-of t)) → Stored r (z .at) t) → m .count ≡ 1 → Atomed z p (Ok r)
 atom-read {z} {a} {b} {n} {p} {u} {v} {m} {m′} {f} o e i s k one = record {
   went = record { within = s .went .within; grows = omega (arith, o .went .grows, e .takes .0, i .went .grows, s .went .grows); text = s .went .text ∙ i .went .text ∙ e .text ∙ o .went .text };
   reads = (

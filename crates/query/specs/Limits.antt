@@ -22,8 +22,9 @@ second-of (atom-tree u h i v k) = v
 abbrev pub inside-of : AtomTree → Inside
 inside-of (atom-tree u h i v k) = i
 
--- The atom a of the code is that of the tree t: its automaton accepts the words of its expression and no others.
-pub record Stored (a : Atom) (t : AtomTree) : Type 0 where
+-- The atom a of the code is that of the tree t, which stands at b: its automaton accepts the words of its expression and no others.
+pub record Stored (a : Atom) (b : ℕ) (t : AtomTree) : Type 0 where
+  pub place : a .place ≡ b
   pub first : a .first ≡ first-of t
   pub second : a .second ≡ second-of t
   pub recognizes : Recognizes (a .automaton) (inside-regex (inside-of t))
@@ -39,20 +40,20 @@ abbrev pub number : AtomsTree → ℕ
 number (one-atom t) = 1
 number (more-atoms s t) = number s + 1
 
--- The list l holds the atoms of the trees, as far as its eight places go.
-abbrev pub Rows : Atom → List Atom → AtomsTree → Type 0
-Rows z l (one-atom t) = Stored (getD l 0 z) t
-Rows z l (more-atoms s t) = Rows z l s × (number s < 8 → Stored (getD l (number s) z) t)
+-- The list l holds the atoms of the trees, the first of which stands at b, as far as its eight places go.
+abbrev pub Rows : Atom → List Atom → ℕ → AtomsTree → Type 0
+Rows z l b (one-atom t) = Stored (getD l 0 z) b t
+Rows z l b (more-atoms s t) = Rows z l b s × (number s < 8 → Stored (getD l (number s) z) (b + length (atoms-text s) + 1) t)
 
 -- The same, and the automaton has no more positions than it has room for.
-pub record Right (a : Atom) (t : AtomTree) : Type 0 where
-  pub stored : Stored a t
+pub record Right (a : Atom) (b : ℕ) (t : AtomTree) : Type 0 where
+  pub stored : Stored a b t
   pub few : a .automaton .size ≤ 63
 
 -- The list l holds the atoms of the trees, each within the limit of letters.
-abbrev pub Rightly : Atom → List Atom → AtomsTree → Type 0
-Rightly z l (one-atom t) = Right (getD l 0 z) t
-Rightly z l (more-atoms s t) = Rightly z l s × Right (getD l (number s) z) t
+abbrev pub Rightly : Atom → List Atom → ℕ → AtomsTree → Type 0
+Rightly z l b (one-atom t) = Right (getD l 0 z) b t
+Rightly z l b (more-atoms s t) = Rightly z l b s × Right (getD l (number s) z) (b + length (atoms-text s) + 1) t
 
 -- A letter or a dot.
 abbrev pub symbol : ℕ → Bool

@@ -38,7 +38,7 @@ pub record Enclosed (old new : Reader) (m m′ : Builder) (r : Result Part ℕ) 
 
 pub record Atomed (old new : Reader) (r : Result Atom ℕ) : Type 0 where
   pub went : Went old new
-  pub reads : Cases r (λ a. (t : AtomTree) × (rest old ≡ atom-text t ++ rest new) × Stored a t) (λ e. (e ≡ new .at) × Halts AtomTree atom-text at-atom (rest old) (rest new))
+  pub reads : Cases r (λ a. (t : AtomTree) × (rest old ≡ atom-text t ++ rest new) × Stored a (old .at) t) (λ e. (e ≡ new .at) × Halts AtomTree atom-text at-atom (rest old) (rest new))
 
 pub record Headed (old new : Reader) (r : Result Head ℕ) : Type 0 where
   pub went : Went old new
@@ -49,7 +49,7 @@ pub record Adds (old new : Draft) (b : ℕ) (t : AtomTree) : Type 0 where
   pub head : new .head ≡ old .head
   pub count : new .count ≡ old .count + 1
   pub kept : (z : Atom) (i : ℕ) → i < old .count → getD (new .atoms) i z ≡ getD (old .atoms) i z
-  pub stored : (z : Atom) → old .count < 8 → Stored (getD (new .atoms) (old .count) z) t
+  pub stored : (z : Atom) → old .count < 8 → Stored (getD (new .atoms) (old .count) z) b t
   pub over : BySome (old .over) (Lowest (Over b (old .count) t) (new .over)) (λ p. new .over ≡ old .over)
 
 pub record Claused (old new : Reader) (d d′ : Draft) (r : Result Unit ℕ) : Type 0 where
@@ -60,7 +60,7 @@ pub record Claused (old new : Reader) (d d′ : Draft) (r : Result Unit ℕ) : T
 pub record Drafted (d : Draft) (h : HeadTree) (s : AtomsTree) (b e : ℕ) : Type 0 where
   pub head : Keeps (d .head) (names h)
   pub count : d .count ≡ number s
-  pub rows : (z : Atom) → Rows z (d .atoms) s
+  pub rows : (z : Atom) → Rows z (d .atoms) b s
   pub over : Lowest (Overs b s) (d .over)
   pub before : BySome (d .over) (Unit {0}) (λ p. p < e)
 

@@ -1,7 +1,8 @@
 -- What a query text is read as, or why it is refused and where.
-use Prim.Native.Nat.{ℕ, _≤_}
+use Prim.Native.Nat.{ℕ, _+_, _≤_}
 use mathlib.Core.Path.{_≡_}
 use mathlib.Core.List.{List}
+use lib.ListN.{length}
 use Rattle.std.specs.declared.result.Result.{Result}
 use Rattle.std.specs.Results.{Cases}
 use Rattle.query.specs.declared.drafts.Atom.{Atom}
@@ -17,7 +18,7 @@ pub record Holds-query (q : Query) (h : HeadTree) (s : AtomsTree) : Type 0 where
   pub head : Keeps (q .head) (names h)
   pub count : q .count ≡ number s
   pub few : number s ≤ 8
-  pub rows : (z : Atom) → Rightly z (q .atoms) s
+  pub rows : (z : Atom) → Rightly z (q .atoms) (length (names h) + 1) s
 
 -- The record holds the query of the text xs, which is within the limits and has no other reading.
 pub record Holds-text (q : Query) (xs : List ℕ) : Type 0 where

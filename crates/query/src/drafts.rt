@@ -12,11 +12,12 @@ use automata::Part;
 use automata::Symbol;
 use automata::finish;
 
-// An atom: its two variables, and the automaton of its expression.
+// An atom: its two variables, the place of its first byte in the text, and the automaton of its expression.
 #[derive(Clone, Copy)]
 pub struct Atom {
     pub first: u8,
     pub second: u8,
+    pub place: usize,
     pub automaton: Automaton,
 }
 
@@ -89,13 +90,14 @@ impl Draft {
 }
 
 // The atom of two variables and an expression whose positions and whole part are given.
-pub(crate) fn sealed(first: u8, second: u8, out: Builder, part: Part) -> Atom
-    ensures { λ r. ⌜ ((t : AtomTree) → first ≡ first-of t → second ≡ second-of t → Holds out part 1 (inside-regex (inside-of t)) → Stored r t) ⌝ }
+pub(crate) fn sealed(first: u8, second: u8, place: usize, out: Builder, part: Part) -> Atom
+    ensures { λ r. ⌜ ((t : AtomTree) → first ≡ first-of t → second ≡ second-of t → Holds out part 1 (inside-regex (inside-of t)) → Stored r place t) ⌝ }
 {
     let automaton = finish(out, part);
     Atom {
         first,
         second,
+        place,
         automaton,
     }
 }
@@ -111,6 +113,7 @@ pub(crate) fn empty_atom() -> Atom {
     Atom {
         first: b'A',
         second: b'A',
+        place: 0,
         automaton,
     }
 }

@@ -51,6 +51,7 @@ impl Reader<'_> {
         requires { ⌜ now self .at ≤ length (now (now self .text)) ⌝ }
         ensures { λ r. ⌜ Atomed (now (self .entry)) (now (self .exit)) r ⌝ }
     {
+        let place = self.at;
         let first = self.name()?;
         if !self.eat('[') {
             return Err(self.at);
@@ -58,7 +59,7 @@ impl Reader<'_> {
         let mut out = Builder::new();
         let part = self.inside(&mut out)?;
         let second = self.name()?;
-        Ok(sealed(first, second, out, part))
+        Ok(sealed(first, second, place, out, part))
     }
 
     // The head and its colon.
