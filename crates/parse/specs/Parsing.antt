@@ -17,7 +17,8 @@ use Rattle.query.specs.declared.drafts.Query.{Query}
 use Rattle.query.specs.Queries.{HeadTree, AtomsTree, names, QueryTree, query-tree, query-text}
 use Rattle.query.specs.Limits.{Large, number}
 use Rattle.query.specs.Sayings.{Same}
-use Rattle.query.specs.Texts.{Holds-query, Refused, fault-number, fault-place}
+use Rattle.query.specs.Texts.{Holds-query, Refused}
+use Rattle.query.specs.Faults.{fault-number, fault-place}
 use Rattle.parse.specs.declared.Parsed.{Parsed}
 use Rattle.parse.specs.declared.Refusal.{Refusal}
 use Rattle.parse.specs.declared.Refusal.the-variants.{TooLong, Unread, Misshapen}

@@ -4,7 +4,7 @@ ghost use Prim.Native.Nat.{ℕ, _<_, _≤_};
 ghost use lib.ListN.{getD, length};
 ghost use Rattle.shapes.specs.declared.checks.Ends.{Ends as EndsOf};
 ghost use Rattle.query.specs.Texts.{Holds-text};
-ghost use Rattle.parse.specs.Parsing.{Parses};
+ghost use Rattle.parse.specs.Parsing.{Parses, refusal-number, refusal-place};
 ghost use Rattle.parse.specs.Shaping.{Numbered, kept-place, no-atom, pair};
 use order::Order;
 use order::reach;
@@ -30,6 +30,30 @@ pub enum Refusal {
     Unread(query::Fault),
     // Its head or its atoms are out of shape, and where in the text that shows.
     Misshapen(shapes::Fault, usize),
+}
+
+impl Refusal {
+    // The refusal number, 4 to 11.
+    pub fn number(self) -> u8
+        ensures { λ r. ⌜ r ≡ refusal-number self ⌝ }
+    {
+        match self {
+            Refusal::TooLong => 4,
+            Refusal::Unread(fault) => fault.number(),
+            Refusal::Misshapen(fault, _) => fault.number(),
+        }
+    }
+
+    // Where in the text it shows.
+    pub fn place(self) -> usize
+        ensures { λ r. ⌜ r ≡ refusal-place self ⌝ }
+    {
+        match self {
+            Refusal::TooLong => 512,
+            Refusal::Unread(fault) => fault.place(),
+            Refusal::Misshapen(_, place) => place,
+        }
+    }
 }
 
 // The query of a text, if it passes every check.

@@ -8,3 +8,4 @@ pub mod Limits
 pub mod Sayings
 pub mod Readings
 pub mod Texts
+pub mod Faults

@@ -47,12 +47,3 @@ Refused xs (TooLarge p) = Too-large xs p
 
 abbrev pub Judged : List ℕ → Result Query Fault → Type 0
 Judged xs r = Cases r (λ q. Holds-text q xs) (Refused xs)
-
--- The number of a fault, and its place in the text.
-abbrev pub fault-number : Fault → ℕ
-fault-number (NoQuery e) = 5
-fault-number (TooLarge p) = 6
-
-abbrev pub fault-place : Fault → ℕ
-fault-place (NoQuery e) = e
-fault-place (TooLarge p) = p

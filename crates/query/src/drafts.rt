@@ -6,6 +6,7 @@ ghost use Rattle.std.specs.Options.{Cases as BySome};
 ghost use Rattle.automata.specs.Parts.{Holds};
 ghost use Rattle.query.specs.Limits.{Keeps, Stored, first-of, inside-of, second-of};
 ghost use Rattle.query.specs.Queries.{AtomTree, inside-regex};
+ghost use Rattle.query.specs.Faults.{fault-number, fault-place};
 use automata::Automaton;
 use automata::Builder;
 use automata::Part;
@@ -53,6 +54,28 @@ pub enum Fault {
     NoQuery(usize),
     // The ninth atom, or the 64th letter or dot of an expression, whichever stands first.
     TooLarge(usize),
+}
+
+impl Fault {
+    // The refusal number.
+    pub fn number(self) -> u8
+        ensures { λ r. ⌜ r ≡ fault-number self ⌝ }
+    {
+        match self {
+            Fault::NoQuery(_) => 5,
+            Fault::TooLarge(_) => 6,
+        }
+    }
+
+    // Where in the text it shows.
+    pub fn place(self) -> usize
+        ensures { λ r. ⌜ r ≡ fault-place self ⌝ }
+    {
+        match self {
+            Fault::NoQuery(place) => place,
+            Fault::TooLarge(place) => place,
+        }
+    }
 }
 
 impl Head {

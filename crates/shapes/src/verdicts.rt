@@ -1,4 +1,5 @@
-ghost use Rattle.shapes.specs.Verdicts.{Verdict};
+ghost use mathlib.Core.Path.{_≡_};
+ghost use Rattle.shapes.specs.Verdicts.{Verdict, number};
 use super::checks::Ends;
 use super::checks::first_alone;
 use super::checks::first_cyclic;
@@ -19,6 +20,21 @@ pub enum Fault {
     UnconnectedAtom(usize),
     // The variable at this place, which is not the first, shares no atom with an earlier one.
     LoneVariable(usize),
+}
+
+impl Fault {
+    // The refusal number.
+    pub fn number(self) -> u8
+        ensures { λ r. ⌜ r ≡ number self ⌝ }
+    {
+        match self {
+            Fault::RepeatedVariable(_) => 7,
+            Fault::UnusedVariable(_) => 8,
+            Fault::CyclicAtom(_) => 9,
+            Fault::UnconnectedAtom(_) => 10,
+            Fault::LoneVariable(_) => 11,
+        }
+    }
 }
 
 // Checks the head and the atoms of a query, in the order of the refusal numbers.

@@ -8,6 +8,8 @@ mod forms;
 #[cfg(test)]
 mod lists;
 #[cfg(test)]
+mod queries;
+#[cfg(test)]
 mod tables;
 #[cfg(test)]
 mod texts;
