@@ -1,0 +1,8 @@
+// The record of a query, its states, and open.
+mod opening;
+mod records;
+
+pub use opening::open;
+pub use records::Blank;
+pub use records::Opened;
+pub use records::Query;
