@@ -21,3 +21,5 @@ pub struct Query {
 pub struct Blank(pub(crate) ());
 
 pub struct Opened(pub(crate) ());
+
+pub struct Listing(pub(crate) ());

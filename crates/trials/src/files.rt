@@ -165,6 +165,23 @@ fn wires_rise(rt: LibcRuntime) -> Result<(), Fail> {
             4,
             0,
         ],
-        "0 a 1\n0 c 3\n1 b 0\n3 wires\n",
+        "refused 18 at 35\n0 a 1\n0 c 3\n1 b 0\n3 wires\n",
+    )
+}
+
+#[test]
+fn queries_that_are_refused(rt: LibcRuntime) -> Result<(), Fail> {
+    // no text, and a head variable that stands twice
+    prints_behind_sizes(&rt, &[0, 0, 4, 0], "refused 18 at 8\n0 wires\n")?;
+    prints_behind_sizes(
+        &rt,
+        &[8, 0, 4, 0, b'A', b'A', b':', b'A', b'[', b'a', b']', b'B'],
+        "refused 18 at 8\n0 wires\n",
+    )?;
+    // one that is accepted prints nothing
+    prints_behind_sizes(
+        &rt,
+        &[7, 0, 4, 0, b'A', b':', b'A', b'[', b'a', b']', b'B'],
+        "0 wires\n",
     )
 }

@@ -2,10 +2,10 @@
 --     Fine bs o s          the record at offset o of bs is read, s being whether the sizes record was read before
 --     behind bs o          the offset behind that record
 --     Obeys g r o rs h rs′ the record r at offset o makes its change to g, which leaves h, or the graph turns it away;
---                          the refusals before are rs, and after rs′; a query makes no change
+--                          the refusals before are rs, and after rs′; a query makes no change, and is refused where its text is
 --     Reached .. o s rs    the reading comes to offset o; by then the graph is s, or there is none yet, and rs are the refusals
 --     Read .. s rs         the reading ends with the graph s, or with none, and the refusals rs
--- A record that the graph turns away is refused and passed; any other that is refused ends the reading.
+-- A change that the graph turns away and a query whose text is refused are noted and passed; any other record that is refused ends the reading.
 use Prim.Native.Nat.{ℕ, _+_, _<_}
 use mathlib.Core.Path.{_≡_}
 use mathlib.Core.Bool.{Bool, true, false}
@@ -24,8 +24,11 @@ use Rattle.graph.specs.declared.outcomes.Fault.{Fault as GraphFault}
 use Rattle.graph.specs.declared.outcomes.SizeFault.{SizeFault}
 use Rattle.graph.specs.Calls.{BadSizes}
 use Rattle.graph.specs.Changes.{Applies}
+use Rattle.parse.specs.declared.Parsed.{Parsed}
+use Rattle.parse.specs.declared.Refusal.{Refusal as QueryRefusal}
+use Rattle.parse.specs.Parsing.{Parses}
 use Rattle.wiring.specs.declared.faults.Fault.{Fault}
-use Rattle.wiring.specs.declared.faults.Fault.the-variants.{TurnedAway, BadSizes as bad-sizes}
+use Rattle.wiring.specs.declared.faults.Fault.the-variants.{TurnedAway, BadQuery, BadSizes as bad-sizes}
 use Rattle.wiring.specs.declared.faults.Refusal.{Refusal}
 use Rattle.wiring.specs.declared.records.Record.{Record}
 use Rattle.wiring.specs.declared.records.Record.the-variants.{Sizes, Change, Query}
@@ -50,7 +53,10 @@ Obeys g (Sizes n q) o rs h rs′ = ⊥
 Obeys g (Change c) o rs h rs′ =
     ((a : Changed) × Applies g c (Ok a) h × (rs′ ≡ rs))
     ⊎ ((f : GraphFault) × Applies g c (Err f) h × (rs′ ≡ rs ++ refusal (TurnedAway f) o ∷ []))
-Obeys g (Query t) o rs h rs′ = (h ≡ g) × (rs′ ≡ rs)
+Obeys g (Query t) o rs h rs′ =
+    (h ≡ g)
+    × (((p : Parsed) × Parses (t .now) (Ok p) × (rs′ ≡ rs))
+    ⊎ ((f : QueryRefusal) × Parses (t .now) (Err f) × (rs′ ≡ rs ++ refusal (BadQuery f) o ∷ [])))
 
 pub data Reached (m k : ℕ) (bs : List ℕ) : ℕ → Option Graph → List Refusal → Type 0 where
   begun : Reached m k bs 0 None []

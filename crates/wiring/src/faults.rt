@@ -2,6 +2,7 @@ ghost use mathlib.Core.Path.{_≡_};
 ghost use Rattle.wiring.specs.declared.faults.Fault.the-variants.{BadSizes, TurnedAway};
 use graph::Fault as GraphFault;
 use graph::SizeFault;
+use parse::Refusal as QueryRefusal;
 
 // Why a record of a wiring file is refused.
 #[derive(Clone, Copy)]
@@ -16,6 +17,8 @@ pub enum Fault {
     BadSizes(SizeFault),
     // The graph refused the change.
     TurnedAway(GraphFault),
+    // The text of a query was refused.
+    BadQuery(QueryRefusal),
 }
 
 pub impl From<SizeFault> for Fault as FaultFromSizeFault {

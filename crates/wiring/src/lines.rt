@@ -21,6 +21,7 @@ impl Fault {
             Fault::Misplaced => 17,
             Fault::BadSizes(_) => 14,
             Fault::TurnedAway(_) => 18,
+            Fault::BadQuery(_) => 18,
         }
     }
 }

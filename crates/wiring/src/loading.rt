@@ -14,6 +14,7 @@ use super::reader::Reader;
 use super::records::Record;
 use graph::Graph;
 use graph::apply;
+use parse::parse;
 use std::alloc::AllocError;
 
 // Makes the changes of the records to come, up to the end or to a record that ends the reading, and notes each refusal.
@@ -64,7 +65,7 @@ fn step<G: Graph>(
     }
 }
 
-// Makes the change that the record at offset `at` asks for, and notes it where the graph turns it away.
+// Makes the change that the record at offset `at` asks for, or checks its query, and notes it where it is turned away.
 fn obey<G: Graph>(
     record: Record,
     at: usize,
@@ -86,7 +87,15 @@ fn obey<G: Graph>(
             }
             Ok(())
         }
-        Record::Query(_) => Ok(()),
+        Record::Query(text) => {
+            if let Err(refusal) = parse(text) {
+                refusals.push(Refusal {
+                    fault: Fault::BadQuery(refusal),
+                    at,
+                })?;
+            }
+            Ok(())
+        }
         Record::Sizes(_, _) => unreachable(),
     }
 }
