@@ -16,7 +16,6 @@ use Rattle.order.specs.declared.Order.{Order}
 use Rattle.query.specs.declared.drafts.Query.{Query}
 use Rattle.query.specs.Queries.{HeadTree, AtomsTree, names, QueryTree, query-tree, query-text}
 use Rattle.query.specs.Limits.{Large, number}
-use Rattle.query.specs.Sayings.{Same}
 use Rattle.query.specs.Texts.{Holds-query, Refused}
 use Rattle.query.specs.Faults.{fault-number, fault-place}
 use Rattle.parse.specs.declared.Parsed.{Parsed}
@@ -24,10 +23,10 @@ use Rattle.parse.specs.declared.Refusal.{Refusal}
 use Rattle.parse.specs.declared.Refusal.the-variants.{TooLong, Unread, Misshapen}
 use Rattle.parse.specs.Shaping.{ends, place}
 
--- The text xs is the query of the head h and the atoms s, has no other reading, and is within the limits.
+-- The text xs is the query of the head h and the atoms s, has no other tree, and is within the limits.
 pub record Reads (xs : List ℕ) (h : HeadTree) (s : AtomsTree) : Type 0 where
   pub text : query-text (query-tree h s) ≡ xs
-  pub only : (k : HeadTree) (r : AtomsTree) → query-text (query-tree k r) ≡ xs → Same h s k r
+  pub only : (t : QueryTree) → query-text t ≡ xs → t ≡ query-tree h s
   pub limits : (t : QueryTree) → query-text t ≡ xs → (p : ℕ) → Large t p → ⊥
 
 -- The atoms s are put in the order in which they are reached from the first variable of the head h.

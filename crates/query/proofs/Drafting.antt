@@ -28,7 +28,6 @@ use Rattle.query.specs.declared.drafts.Query.{Query}
 use Rattle.query.specs.Texts.{Too-large, Holds-query, Holds-text}
 use Rattle.query.specs.Readings.{Went, Atomed, Headed, Claused, Adds, Drafted, Wholly}
 use Rattle.query.proofs.Once.{one-query}
-use Rattle.query.proofs.Places.{limits-once}
 use Rattle.query.proofs.Letters.{over-not, over-none}
 use Rattle.query.proofs.Stages.{goes-append, runs-head, runs-atoms, runs-query, query-done, halts-under, dead-goes}
 
@@ -295,19 +294,13 @@ whole-read {xs} {s} {m} {d} i e ge = (
   record { head = i .drafted .head; count = i .drafted .count; rows = i .drafted .rows; over = i .drafted .over; before = later (d .over) (s .at) (length xs) (omega (arith, ap length (i .text), i .within)) (i .drafted .before) },
 )
 
-alike : (h : HeadTree) (s : AtomsTree) (t : QueryTree) → query-text (query-tree h s) ≡ query-text t → (p : ℕ) → Large (query-tree h s) p → Large t p
-alike h s (query-tree k r) e = limits-once h k s r e
-
-alike-back : (h : HeadTree) (s : AtomsTree) (t : QueryTree) → query-text (query-tree h s) ≡ query-text t → (p : ℕ) → Large t p → Large (query-tree h s) p
-alike-back h s (query-tree k r) e = limits-once k h r s (sym e)
-
 pub too-large : {xs : List ℕ} {d : Draft} {p : ℕ} → Wholly xs (Ok d) → d .over ≡ Some p → Too-large xs p
 too-large {xs} {d} {p} w e =
     let k : Lowest (Overs (length (names (w .0)) + 1) (w .1)) (Some p) = subst (Lowest (Overs (length (names (w .0)) + 1) (w .1))) e (w .3 .over) in
     record {
       query = (query-tree (w .0) (w .1), w .2);
-      large = λ t g. alike (w .0) (w .1) t (w .2 ∙ sym g) p (k .0);
-      first = λ t g q l. k .1 q (alike-back (w .0) (w .1) t (w .2 ∙ sym g) q l);
+      large = λ t g. subst (λ (y : QueryTree). Large y p) (one-query (query-tree (w .0) (w .1)) t (w .2 ∙ sym g)) (k .0);
+      first = λ t g q l. k .1 q (subst (λ (y : QueryTree). Large y q) (one-query t (query-tree (w .0) (w .1)) (g ∙ sym (w .2))) l);
     }
 
 right : {a : Atom} {b : ℕ} {t : AtomTree} → size (inside-regex (inside-of t)) ≤ 63 → Stored a b t → Right a b t
@@ -329,8 +322,8 @@ in-limits {xs} {d} q w e f g c =
       head = w .0;
       atoms = w .1;
       text = w .2;
-      only = λ h s g. one-query (w .0) h (w .1) s (w .2 ∙ sym g);
-      limits = λ t g p l. k p (alike-back (w .0) (w .1) t (w .2 ∙ sym g) p l);
+      only = λ t g. one-query t (query-tree (w .0) (w .1)) (g ∙ sym (w .2));
+      limits = λ t g p l. k p (subst (λ (y : QueryTree). Large y p) (one-query t (query-tree (w .0) (w .1)) (g ∙ sym (w .2))) l);
       holds = record {
         head = subst (λ (y : Head). Keeps y (names (w .0))) (sym f) (w .3 .head);
         count = c ∙ w .3 .count;

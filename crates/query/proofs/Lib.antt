@@ -6,5 +6,4 @@ pub mod Stages
 pub mod Wholes
 pub mod Letters
 pub mod Once
-pub mod Places
 pub mod Drafting

@@ -1,13 +1,13 @@
--- A query text has one reading.
+-- A query text has one tree.
 use Prim.Native.Nat.{ℕ, _+_, _≤_, _<_}
 use mathlib.Core.Path.{_≡_, refl, sym, _∙_, ap, subst}
 use mathlib.Core.List.{List, [], _∷_, _++_, append-assoc, append-nil}
 use native.Mathlib.Omega.{arith}
-use Rattle.meaning.specs.Words.{Regex}
+use native.Mathlib.Bridge.{le-prop}
+use lib.ListN.{length, length-append}
 use Rattle.query.specs.Grammar as G
 use Rattle.query.specs.Grammar.{Layer, Tree, text, letter, dot, group, plain, one-step, joined, one-sequence, either}
-use Rattle.query.specs.Queries.{Capital, HeadTree, one-name, more-names, names, Inside, nothing, filled, inside-text, inside-regex, AtomTree, atom-tree, atom-text, AtomsTree, one-atom, more-atoms, atoms-text, QueryTree, query-tree, query-text}
-use Rattle.query.specs.Sayings.{Saying, saying, atoms-of, sayings, Same}
+use Rattle.query.specs.Queries.{Capital, HeadTree, one-name, more-names, names, Inside, nothing, filled, inside-text, AtomTree, atom-tree, atom-text, AtomsTree, one-atom, more-atoms, atoms-text, QueryTree, query-tree, query-text}
 use Rattle.query.proofs.Unique.{unambiguous}
 use Rattle.query.proofs.Stages.{tree-some}
 
@@ -52,11 +52,76 @@ head-lacks : (h : HeadTree) → Lacks 58 (names h)
 head-lacks (one-name b h) = ((λ e. omega (arith, h .1, h .0)), tt)
 head-lacks (more-names t b h) = lacks-append 58 (names t) (b ∷ []) (head-lacks t) ((λ e. omega (arith, h .1, h .0)), tt)
 
-inside-once : (i j : Inside) → inside-text i ≡ inside-text j → inside-regex i ≡ inside-regex j
+inside-once : (i j : Inside) → inside-text i ≡ inside-text j → i ≡ j
 inside-once nothing nothing e = refl
 inside-once nothing (filled t) e = absurd (tree-some t (sym e))
 inside-once (filled t) nothing e = absurd (tree-some t e)
-inside-once (filled t) (filled u) e = unambiguous t u e
+inside-once (filled t) (filled u) e = ap filled (unambiguous t u e)
+
+-- Two proofs that a byte is a capital letter do not differ.
+capital-prop : (b : ℕ) (h k : Capital b) → h ≡ k
+capital-prop b h k = ap (λ (y : 65 ≤ b). (y, h .1)) (le-prop (h .0) (k .0)) ∙ ap (λ (y : b ≤ 90). (k .0, y)) (le-prop (h .1) (k .1))
+
+same-atom : (u x v y : ℕ) (h : Capital u) (p : Capital x) (i j : Inside) (k : Capital v) (q : Capital y) → u ≡ x → i ≡ j → v ≡ y → atom-tree u h i v k ≡ atom-tree x p j y q
+same-atom u x v y h p i j k q e f g =
+    subst (λ (z : ℕ). (w : Capital z) → atom-tree u h i v k ≡ atom-tree z w j y q) e
+    (λ w. subst (λ (z : ℕ). (o : Capital z) → atom-tree u h i v k ≡ atom-tree u w j z o) g
+    (λ o. ap (λ m. atom-tree u m i v k) (capital-prop u h w) ∙ ap (λ m. atom-tree u w m v k) f ∙ ap (λ m. atom-tree u w j v m) (capital-prop v k o)) q) p
+
+same-one : (b c : ℕ) (h : Capital b) (k : Capital c) → b ≡ c → one-name b h ≡ one-name c k
+same-one b c h k e = subst (λ (z : ℕ). (w : Capital z) → one-name b h ≡ one-name z w) e (λ w. ap (λ m. one-name b m) (capital-prop b h w)) k
+
+same-more : (t u : HeadTree) (b c : ℕ) (h : Capital b) (k : Capital c) → t ≡ u → b ≡ c → more-names t b h ≡ more-names u c k
+same-more t u b c h k f e =
+    subst (λ (z : ℕ). (w : Capital z) → more-names t b h ≡ more-names u z w) e (λ w. ap (λ m. more-names m b h) f ∙ ap (λ m. more-names u b m) (capital-prop b h w)) k
+
+-- The last of a list, and those before it.
+last-numbers : (l r : List ℕ) (a b : ℕ) → l ++ a ∷ [] ≡ r ++ b ∷ [] → (l ≡ r) × (a ≡ b)
+last-numbers [] [] a b e = (refl, (cc))
+last-numbers [] (y ∷ r) a b e = absurd (omega (arith, ap length e, length-append r (b ∷ [])))
+last-numbers (x ∷ l) [] a b e = absurd (omega (arith, ap length e, length-append l (a ∷ [])))
+last-numbers (x ∷ l) (y ∷ r) a b e =
+    let o : x ≡ y = cc in
+    let t : l ++ a ∷ [] ≡ r ++ b ∷ [] = cc in
+    let w = last-numbers l r a b t in
+    (ap (λ m. m ∷ l) o ∙ ap (λ m. y ∷ m) (w .0), w .1)
+
+last-atoms : (l r : List AtomTree) (a b : AtomTree) → l ++ a ∷ [] ≡ r ++ b ∷ [] → (l ≡ r) × (a ≡ b)
+last-atoms [] [] a b e = (refl, (cc))
+last-atoms [] (y ∷ r) a b e = absurd (omega (arith, ap length e, length-append r (b ∷ [])))
+last-atoms (x ∷ l) [] a b e = absurd (omega (arith, ap length e, length-append l (a ∷ [])))
+last-atoms (x ∷ l) (y ∷ r) a b e =
+    let o : x ≡ y = cc in
+    let t : l ++ a ∷ [] ≡ r ++ b ∷ [] = cc in
+    let w = last-atoms l r a b t in
+    (ap (λ m. m ∷ l) o ∙ ap (λ m. y ∷ m) (w .0), w .1)
+
+head-some : (h : HeadTree) → 0 < length (names h)
+head-some (one-name b k) = omega arith
+head-some (more-names t b k) = omega (arith, length-append (names t) (b ∷ []))
+
+head-once : (h k : HeadTree) → names h ≡ names k → h ≡ k
+head-once (one-name b h) (one-name c k) e = let o : b ≡ c = cc in same-one b c h k o
+head-once (one-name b h) (more-names u c k) e = absurd (omega (arith, ap length e, length-append (names u) (c ∷ []), head-some u))
+head-once (more-names t b h) (one-name c k) e = absurd (omega (arith, ap length e, length-append (names t) (b ∷ []), head-some t))
+head-once (more-names t b h) (more-names u c k) e = let w = last-numbers (names t) (names u) b c e in same-more t u b c h k (head-once t u (w .0)) (w .1)
+
+-- The atoms in the order of the text.
+abbrev atoms-of : AtomsTree → List AtomTree
+atoms-of (one-atom t) = t ∷ []
+atoms-of (more-atoms s t) = atoms-of s ++ t ∷ []
+
+atoms-some : (s : AtomsTree) → 0 < length (atoms-of s)
+atoms-some (one-atom t) = omega arith
+atoms-some (more-atoms s t) = omega (arith, length-append (atoms-of s) (t ∷ []))
+
+atoms-once : (s r : AtomsTree) → atoms-of s ≡ atoms-of r → s ≡ r
+atoms-once (one-atom t) (one-atom u) e = let o : t ≡ u = cc in ap one-atom o
+atoms-once (one-atom t) (more-atoms r u) e = absurd (omega (arith, ap length e, length-append (atoms-of r) (u ∷ []), atoms-some r))
+atoms-once (more-atoms s t) (one-atom u) e = absurd (omega (arith, ap length e, length-append (atoms-of s) (t ∷ []), atoms-some s))
+atoms-once (more-atoms s t) (more-atoms r u) e =
+    let w = last-atoms (atoms-of s) (atoms-of r) t u e in
+    ap (λ m. more-atoms m t) (atoms-once s r (w .0)) ∙ ap (λ m. more-atoms r m) (w .1)
 
 -- Atoms with a comma before each.
 abbrev commas : List AtomTree → List ℕ
@@ -71,10 +136,7 @@ atoms-commas : (s : AtomsTree) → commas (atoms-of s) ≡ 44 ∷ atoms-text s
 atoms-commas (one-atom t) = ap (λ y. 44 ∷ y) (append-nil (atom-text t))
 atoms-commas (more-atoms s t) = commas-append (atoms-of s) (t ∷ []) ∙ ap (λ y. y ++ commas (t ∷ [])) (atoms-commas s) ∙ ap (λ y. 44 ∷ (atoms-text s ++ 44 ∷ y)) (append-nil (atom-text t))
 
-same-saying : (u v x y : ℕ) (b c : List ℕ) (r s : Regex) → u ≡ x → b ≡ c → r ≡ s → v ≡ y → _≡_ {A = Saying} (record { first = u; bytes = b; expression = r; second = v }) (record { first = x; bytes = c; expression = s; second = y })
-same-saying u v x y b c r s e f g h = rw (e, f, g, h)
-
-commas-once : (l r : List AtomTree) → commas l ≡ commas r → sayings l ≡ sayings r
+commas-once : (l r : List AtomTree) → commas l ≡ commas r → l ≡ r
 commas-once [] [] e = refl
 commas-once [] (t ∷ r) e = let o : _≡_ {A = ℕ} 0 1 = cc in absurd (omega arith)
 commas-once (t ∷ l) [] e = let o : _≡_ {A = ℕ} 0 1 = cc in absurd (omega arith)
@@ -84,9 +146,10 @@ commas-once (atom-tree u h i v k ∷ l) (atom-tree x p j y q ∷ r) e =
     let c = parts-at 93 (inside-text i) (inside-text j) (v ∷ commas l) (y ∷ commas r) (inside-lacks i) (inside-lacks j) (sym (append-assoc (inside-text i) (93 ∷ v ∷ []) (commas l)) ∙ b ∙ append-assoc (inside-text j) (93 ∷ y ∷ []) (commas r)) in
     let d : v ≡ y = cc (c .1) in
     let f : commas l ≡ commas r = cc (c .1) in
-    ap (λ z. z ∷ sayings l) (same-saying u v x y (inside-text i) (inside-text j) (inside-regex i) (inside-regex j) a (c .0) (inside-once i j (c .0)) d) ∙ ap (λ z. saying (atom-tree x p j y q) ∷ z) (commas-once l r f)
+    ap (λ z. z ∷ l) (same-atom u x v y h p i j k q a (inside-once i j (c .0)) d) ∙ ap (λ z. atom-tree x p j y q ∷ z) (commas-once l r f)
 
-pub one-query : (h k : HeadTree) (s r : AtomsTree) → query-text (query-tree h s) ≡ query-text (query-tree k r) → Same h s k r
-one-query h k s r e =
+pub one-query : (t u : QueryTree) → query-text t ≡ query-text u → t ≡ u
+one-query (query-tree h s) (query-tree k r) e =
     let c = parts-at 58 (names h) (names k) (atoms-text s) (atoms-text r) (head-lacks h) (head-lacks k) e in
-    (c .0, commas-once (atoms-of s) (atoms-of r) (atoms-commas s ∙ ap (λ y. 44 ∷ y) (c .1) ∙ sym (atoms-commas r)))
+    let w = commas-once (atoms-of s) (atoms-of r) (atoms-commas s ∙ ap (λ y. 44 ∷ y) (c .1) ∙ sym (atoms-commas r)) in
+    ap (λ m. query-tree m s) (head-once h k (c .0)) ∙ ap (λ m. query-tree k m) (atoms-once s r w)

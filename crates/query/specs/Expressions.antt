@@ -1,7 +1,7 @@
 -- Whole texts as path expressions.
 --     Begins xs k        the first k bytes of xs begin the text of some expression
 --     Longest xs k       k is the length of the longest beginning of xs that does
---     Expresses xs r     r is an automaton for exactly the words of the expression xs, which has one reading;
+--     Expresses xs r     r is an automaton for exactly the words of the expression xs, which has one tree;
 --                        or xs is no expression, and r is the length of its longest beginning that begins one
 use Prim.Native.Nat.{ℕ, _≤_, _<_}
 use mathlib.Core.Path.{_≡_}
@@ -26,7 +26,7 @@ pub record Expression (xs : List ℕ) (a : Automaton) : Type 0 where
   pub tree : Tree alternative
   pub is : text tree ≡ xs
   pub words : Recognizes a (regex tree)
-  pub only : (t : Tree alternative) → text t ≡ xs → regex t ≡ regex tree
+  pub only : (t : Tree alternative) → text t ≡ xs → t ≡ tree
 
 pub record NoExpression (xs : List ℕ) (k : ℕ) : Type 0 where
   pub none : (t : Tree alternative) → text t ≡ xs → ⊥

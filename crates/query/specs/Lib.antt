@@ -5,7 +5,6 @@ pub mod Expressions
 pub mod Queries
 pub mod Viable
 pub mod Limits
-pub mod Sayings
 pub mod Readings
 pub mod Texts
 pub mod Faults

@@ -11,7 +11,6 @@ use Rattle.query.specs.declared.drafts.Fault.{Fault}
 use Rattle.query.specs.declared.drafts.Fault.the-variants.{NoQuery, TooLarge}
 use Rattle.query.specs.Queries.{HeadTree, AtomsTree, names, QueryTree, query-tree, query-text, Is-query, Longest}
 use Rattle.query.specs.Limits.{Keeps, Rightly, Large, number}
-use Rattle.query.specs.Sayings.{Same}
 
 -- The record q holds the query of the tree: its head, and its atoms in the order of the text.
 pub record Holds-query (q : Query) (h : HeadTree) (s : AtomsTree) : Type 0 where
@@ -20,12 +19,12 @@ pub record Holds-query (q : Query) (h : HeadTree) (s : AtomsTree) : Type 0 where
   pub few : number s ≤ 8
   pub rows : (z : Atom) → Rightly z (q .atoms) (length (names h) + 1) s
 
--- The record holds the query of the text xs, which is within the limits and has no other reading.
+-- The record holds the query of the text xs, which is within the limits and has no other tree.
 pub record Holds-text (q : Query) (xs : List ℕ) : Type 0 where
   pub head : HeadTree
   pub atoms : AtomsTree
   pub text : query-text (query-tree head atoms) ≡ xs
-  pub only : (k : HeadTree) (r : AtomsTree) → query-text (query-tree k r) ≡ xs → Same head atoms k r
+  pub only : (t : QueryTree) → query-text t ≡ xs → t ≡ query-tree head atoms
   pub holds : Holds-query q head atoms
   pub limits : (t : QueryTree) → query-text t ≡ xs → (p : ℕ) → Large t p → ⊥
 

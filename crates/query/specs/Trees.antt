@@ -1,6 +1,6 @@
 -- The regular expression of a syntax tree.
 --     regex t        a letter is its label, a dot any label
---     Unambiguous    two trees of one text mean the same
+--     Unambiguous    a text has one tree
 use Prim.Native.Nat.{_-_}
 use mathlib.Core.Path.{_≡_}
 use Rattle.meaning.specs.Words as W
@@ -22,4 +22,4 @@ regex (one-sequence t) = regex t
 regex (either s t) = alt (regex s) (regex t)
 
 abbrev pub Unambiguous : Type 0
-Unambiguous = (t u : Tree alternative) → text t ≡ text u → regex t ≡ regex u
+Unambiguous = (t u : Tree alternative) → text t ≡ text u → t ≡ u

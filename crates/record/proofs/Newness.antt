@@ -16,13 +16,12 @@ use Rattle.shapes.specs.Checks.{of, Repeated, Unused, Cyclic, Unconnected, Alon
 use Rattle.shapes.specs.Verdicts.{Verdict}
 use Rattle.shapes.proofs.Merging.{cycle-none}
 use Rattle.query.specs.Grammar.{dot, plain, one-step, one-sequence}
-use Rattle.query.specs.Queries.{HeadTree, one-name, names, filled, AtomTree, atom-tree, AtomsTree, one-atom, more-atoms, QueryTree, query-tree, query-text}
+use Rattle.query.specs.Queries.{HeadTree, one-name, names, filled, AtomTree, atom-tree, one-atom, QueryTree, query-tree, query-text}
 use Rattle.query.specs.Limits.{symbols, weigh, symbol, Sixty-fourth, Over, Large}
-use Rattle.query.specs.Sayings.{Saying, saying, sayings, atoms-of}
 use Rattle.query.specs.declared.drafts.Fault.the-variants.{NoQuery, TooLarge}
 use Rattle.parse.specs.declared.Refusal.{Refusal}
 use Rattle.parse.specs.declared.Refusal.the-variants.{TooLong, Unread, Misshapen}
-use Rattle.parse.specs.Shaping.{end, ends}
+use Rattle.parse.specs.Shaping.{ends}
 use Rattle.parse.specs.Parsing.{Denied, Ill-shaped}
 use Rattle.record.specs.Records.{new-text}
 
@@ -56,18 +55,12 @@ not-large p (inr h) =
     let s = h .2 in
     omega (arith, s .many, symbols-le (s .before), ap length (s .splits), length-append (s .before) (s .byte ∷ s .behind))
 
--- What the checks see hangs on what is said alone.
-abbrev said : List Saying → List Ends
-said [] = []
-said (x ∷ l) = record { first = x .first; second = x .second } ∷ said l
+-- What the checks see of a tree.
+abbrev seen-head : QueryTree → List ℕ
+seen-head (query-tree h s) = names h
 
-said-append : (l : List AtomTree) (t : AtomTree) → said (sayings (l ++ t ∷ [])) ≡ said (sayings l) ++ end t ∷ []
-said-append [] (atom-tree u h i v k) = refl
-said-append (x ∷ l) t = ap (λ y. record { first = saying x .first; second = saying x .second } ∷ y) (said-append l t)
-
-ends-said : (s : AtomsTree) → ends s ≡ said (sayings (atoms-of s))
-ends-said (one-atom (atom-tree u h i v k)) = refl
-ends-said (more-atoms s t) = ap (λ y. y ++ end t ∷ []) (ends-said s) ∙ sym (said-append (atoms-of s) t)
+abbrev seen-atoms : QueryTree → List Ends
+seen-atoms (query-tree h s) = ends s
 
 -- The checks of the shape.
 below-one : (P : ℕ → Type 0) → P 0 → (j : ℕ) → j < 1 → P j
@@ -106,16 +99,8 @@ in-shape (LoneVariable i) v = omega (arith, v .4 .0, v .4 .1 .0)
 
 well-shaped : (f : Fault) (p : ℕ) → Ill-shaped new-text f p → ⊥
 well-shaped f p i =
-    let o = i .reads .only new-head (one-atom new-atom) is-text in
-    let n : names (i .head) ≡ heads = o .0 ∙ known in
-    let e : ends (i .atoms) ≡ pairs = ends-said (i .atoms) ∙ ap said (o .1) ∙ knows in
-    in-shape f (subst (λ (y : List ℕ). Verdict y pairs (Err f)) n (subst (λ (y : List Ends). Verdict (names (i .head)) y (Err f)) e (i .shape)))
-  where
-    known : names new-head ≡ heads
-    known = refl
-
-    knows : said (sayings (atoms-of (one-atom new-atom))) ≡ pairs
-    knows = refl
+    let o = i .reads .only (query-tree new-head (one-atom new-atom)) is-text in
+    in-shape f (subst (λ (y : List ℕ). Verdict y pairs (Err f)) (sym (ap seen-head o)) (subst (λ (y : List Ends). Verdict (names (i .head)) y (Err f)) (sym (ap seen-atoms o)) (i .shape)))
 
 pub not-denied : (r : Refusal) → Denied new-text r → ⊥
 not-denied TooLong d = omega (arith, d)
