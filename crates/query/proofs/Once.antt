@@ -76,24 +76,14 @@ same-more t u b c h k f e =
     subst (λ (z : ℕ). (w : Capital z) → more-names t b h ≡ more-names u z w) e (λ w. ap (λ m. more-names m b h) f ∙ ap (λ m. more-names u b m) (capital-prop b h w)) k
 
 -- The last of a list, and those before it.
-last-numbers : (l r : List ℕ) (a b : ℕ) → l ++ a ∷ [] ≡ r ++ b ∷ [] → (l ≡ r) × (a ≡ b)
-last-numbers [] [] a b e = (refl, (cc))
-last-numbers [] (y ∷ r) a b e = absurd (omega (arith, ap length e, length-append r (b ∷ [])))
-last-numbers (x ∷ l) [] a b e = absurd (omega (arith, ap length e, length-append l (a ∷ [])))
-last-numbers (x ∷ l) (y ∷ r) a b e =
+last-of : {A : Type 0} (l r : List A) (a b : A) → l ++ a ∷ [] ≡ r ++ b ∷ [] → (l ≡ r) × (a ≡ b)
+last-of [] [] a b e = (refl, (cc))
+last-of [] (y ∷ r) a b e = absurd (omega (arith, ap length e, length-append r (b ∷ [])))
+last-of (x ∷ l) [] a b e = absurd (omega (arith, ap length e, length-append l (a ∷ [])))
+last-of (x ∷ l) (y ∷ r) a b e =
     let o : x ≡ y = cc in
     let t : l ++ a ∷ [] ≡ r ++ b ∷ [] = cc in
-    let w = last-numbers l r a b t in
-    (ap (λ m. m ∷ l) o ∙ ap (λ m. y ∷ m) (w .0), w .1)
-
-last-atoms : (l r : List AtomTree) (a b : AtomTree) → l ++ a ∷ [] ≡ r ++ b ∷ [] → (l ≡ r) × (a ≡ b)
-last-atoms [] [] a b e = (refl, (cc))
-last-atoms [] (y ∷ r) a b e = absurd (omega (arith, ap length e, length-append r (b ∷ [])))
-last-atoms (x ∷ l) [] a b e = absurd (omega (arith, ap length e, length-append l (a ∷ [])))
-last-atoms (x ∷ l) (y ∷ r) a b e =
-    let o : x ≡ y = cc in
-    let t : l ++ a ∷ [] ≡ r ++ b ∷ [] = cc in
-    let w = last-atoms l r a b t in
+    let w = last-of l r a b t in
     (ap (λ m. m ∷ l) o ∙ ap (λ m. y ∷ m) (w .0), w .1)
 
 head-some : (h : HeadTree) → 0 < length (names h)
@@ -104,7 +94,7 @@ head-once : (h k : HeadTree) → names h ≡ names k → h ≡ k
 head-once (one-name b h) (one-name c k) e = let o : b ≡ c = cc in same-one b c h k o
 head-once (one-name b h) (more-names u c k) e = absurd (omega (arith, ap length e, length-append (names u) (c ∷ []), head-some u))
 head-once (more-names t b h) (one-name c k) e = absurd (omega (arith, ap length e, length-append (names t) (b ∷ []), head-some t))
-head-once (more-names t b h) (more-names u c k) e = let w = last-numbers (names t) (names u) b c e in same-more t u b c h k (head-once t u (w .0)) (w .1)
+head-once (more-names t b h) (more-names u c k) e = let w = last-of (names t) (names u) b c e in same-more t u b c h k (head-once t u (w .0)) (w .1)
 
 -- The atoms in the order of the text.
 abbrev atoms-of : AtomsTree → List AtomTree
@@ -120,7 +110,7 @@ atoms-once (one-atom t) (one-atom u) e = let o : t ≡ u = cc in ap one-atom o
 atoms-once (one-atom t) (more-atoms r u) e = absurd (omega (arith, ap length e, length-append (atoms-of r) (u ∷ []), atoms-some r))
 atoms-once (more-atoms s t) (one-atom u) e = absurd (omega (arith, ap length e, length-append (atoms-of s) (t ∷ []), atoms-some s))
 atoms-once (more-atoms s t) (more-atoms r u) e =
-    let w = last-atoms (atoms-of s) (atoms-of r) t u e in
+    let w = last-of (atoms-of s) (atoms-of r) t u e in
     ap (λ m. more-atoms m t) (atoms-once s r (w .0)) ∙ ap (λ m. more-atoms r m) (w .1)
 
 -- Atoms with a comma before each.
