@@ -1,5 +1,7 @@
 // Fills the table of one expression over the graph of a wiring file on standard input, and says how many pairs it has and how many follow questions it
 // took, for each kind of graph that has room for the nodes. With a second argument, a number of repetitions, it also says how long one takes.
+#![tactic(auto)]
+
 mod counted;
 mod filling;
 

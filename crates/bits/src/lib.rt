@@ -1,5 +1,7 @@
 // Words as sets of bits, and rows of bits in a slice of words. Bit i of a word is counted from the lowest; a number past 63 is taken modulo 64.
 // No other code divides by 64.
+#![tactic(auto)]
+
 mod rows;
 mod words;
 

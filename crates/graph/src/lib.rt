@@ -1,4 +1,6 @@
 // Labelled directed graphs behind one interface, and the kinds of graph.
+#![tactic(auto)]
+
 mod changes;
 mod edges;
 mod interface;

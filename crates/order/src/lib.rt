@@ -1,4 +1,6 @@
 // The order in which the atoms of a query are reached.
+#![tactic(auto)]
+
 ghost use Rattle.std.specs.Prelude.{◌≡◌, ℕ, ◌<◌, ◌≤◌, ◌⊎◌, length, Decides, slice_index};
 ghost use Rattle.meaning.specs.Firsts.{FirstAt};
 ghost use Rattle.shapes.specs.Checks.{of, Cyclic, Unconnected, Absent};

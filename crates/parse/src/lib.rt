@@ -1,4 +1,6 @@
 // A query text, with all of its checks.
+#![tactic(auto)]
+
 ghost use Rattle.std.specs.Prelude.{◌≡◌, ℕ, ◌<◌, ◌≤◌, length, slice_index_or};
 ghost use Rattle.shapes.specs.declared.checks.Ends.{Ends as EndsOf};
 ghost use Rattle.query.specs.Texts.{HoldsText};

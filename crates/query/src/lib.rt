@@ -1,4 +1,6 @@
 // Query texts: path expressions and whole queries, read into position automata.
+#![tactic(auto)]
+
 mod drafts;
 mod expressions;
 mod parts;

@@ -1,4 +1,6 @@
 // The record of a query, its states, and open.
+#![tactic(auto)]
+
 mod calls;
 mod opening;
 mod records;

@@ -1,4 +1,6 @@
 // The lowest tuple that fits the tables of a workspace, above the last one given.
+#![tactic(auto)]
+
 mod fitting;
 mod places;
 mod searching;

@@ -1,4 +1,6 @@
 // The shape of a query: its head, and which variables its atoms join.
+#![tactic(auto)]
+
 mod checks;
 mod verdicts;
 

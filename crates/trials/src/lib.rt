@@ -1,4 +1,6 @@
 // Tests of the libraries on hand-worked examples.
+#![tactic(auto)]
+
 #[cfg(test)]
 mod expressions;
 #[cfg(test)]

@@ -1,4 +1,6 @@
 // Lists the wires that a wiring file on standard input leaves standing.
+#![tactic(auto)]
+
 use std::io;
 use std::io::Read;
 use wiring::{report_text, survey_file};

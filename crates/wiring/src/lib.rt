@@ -1,4 +1,6 @@
 // Wiring files: their records, what a file leaves standing, and the lines that are printed of it.
+#![tactic(auto)]
+
 mod faults;
 mod lines;
 mod listing;
