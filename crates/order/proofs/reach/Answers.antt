@@ -18,14 +18,14 @@ loop-c-init c =
       taking_none (of c.args.atoms.now) (length c.args.atoms.now) c.args.start _ _ (λ d l. get_or-replicate 8 d 8 0 (omega arith)) s.0 s.1,
     )
 
-pub offset-bounds-at-k : goal.offset-bounds-at-k
-offset-bounds-at-k c = omega (arith, c.requires.few, open_room (of c.args.atoms.now) (length c.args.atoms.now) c.args.start c.loop-c.k (ranks c.loop-c.at c.loop-c.rank c.loop-c.parent c.loop-c.shared c.loop-c.fresh) (λ v. get_or c.loop-c.seen v 0) c.in-Some.c c.loop-c.invariant.6 c.in-Some.ensures.0 c.in-Some.ensures.1.0)
+pub offset_bounds-at-k : goal.offset_bounds-at-k
+offset_bounds-at-k c = omega (arith, c.requires.few, open_room (of c.args.atoms.now) (length c.args.atoms.now) c.args.start c.loop-c.k (ranks c.loop-c.at c.loop-c.rank c.loop-c.parent c.loop-c.shared c.loop-c.fresh) (λ v. get_or c.loop-c.seen v 0) c.in-Some.c c.loop-c.invariant.6 c.in-Some.ensures.0 c.in-Some.ensures.1.0)
 
 pub bounds-at-k : goal.bounds-at-k
 bounds-at-k c = omega (arith, c.requires.few, open_room (of c.args.atoms.now) (length c.args.atoms.now) c.args.start c.loop-c.k (ranks c.loop-c.at c.loop-c.rank c.loop-c.parent c.loop-c.shared c.loop-c.fresh) (λ v. get_or c.loop-c.seen v 0) c.in-Some.c c.loop-c.invariant.6 c.in-Some.ensures.0 c.in-Some.ensures.1.0)
 
-pub offset-bounds-parent-k : goal.offset-bounds-parent-k
-offset-bounds-parent-k c = omega (arith, c.requires.few, open_room (of c.args.atoms.now) (length c.args.atoms.now) c.args.start c.loop-c.k (ranks c.loop-c.at c.loop-c.rank c.loop-c.parent c.loop-c.shared c.loop-c.fresh) (λ v. get_or c.loop-c.seen v 0) c.in-Some.c c.loop-c.invariant.6 c.in-Some.ensures.0 c.in-Some.ensures.1.0)
+pub offset_bounds-parent-k : goal.offset_bounds-parent-k
+offset_bounds-parent-k c = omega (arith, c.requires.few, open_room (of c.args.atoms.now) (length c.args.atoms.now) c.args.start c.loop-c.k (ranks c.loop-c.at c.loop-c.rank c.loop-c.parent c.loop-c.shared c.loop-c.fresh) (λ v. get_or c.loop-c.seen v 0) c.in-Some.c c.loop-c.invariant.6 c.in-Some.ensures.0 c.in-Some.ensures.1.0)
 
 pub bounds-parent-k : goal.bounds-parent-k
 bounds-parent-k c = omega (arith, c.requires.few, open_room (of c.args.atoms.now) (length c.args.atoms.now) c.args.start c.loop-c.k (ranks c.loop-c.at c.loop-c.rank c.loop-c.parent c.loop-c.shared c.loop-c.fresh) (λ v. get_or c.loop-c.seen v 0) c.in-Some.c c.loop-c.invariant.6 c.in-Some.ensures.0 c.in-Some.ensures.1.0)
@@ -36,8 +36,8 @@ bounds-shared-k c = omega (arith, c.requires.few, open_room (of c.args.atoms.now
 pub bounds-fresh-k : goal.bounds-fresh-k
 bounds-fresh-k c = omega (arith, c.requires.few, open_room (of c.args.atoms.now) (length c.args.atoms.now) c.args.start c.loop-c.k (ranks c.loop-c.at c.loop-c.rank c.loop-c.parent c.loop-c.shared c.loop-c.fresh) (λ v. get_or c.loop-c.seen v 0) c.in-Some.c c.loop-c.invariant.6 c.in-Some.ensures.0 c.in-Some.ensures.1.0)
 
-pub overflow-add-k : goal.overflow-add-k
-overflow-add-k c = omega (arith, c.requires.few, open_room (of c.args.atoms.now) (length c.args.atoms.now) c.args.start c.loop-c.k (ranks c.loop-c.at c.loop-c.rank c.loop-c.parent c.loop-c.shared c.loop-c.fresh) (λ v. get_or c.loop-c.seen v 0) c.in-Some.c c.loop-c.invariant.6 c.in-Some.ensures.0 c.in-Some.ensures.1.0)
+pub overflow_add-k : goal.overflow_add-k
+overflow_add-k c = omega (arith, c.requires.few, open_room (of c.args.atoms.now) (length c.args.atoms.now) c.args.start c.loop-c.k (ranks c.loop-c.at c.loop-c.rank c.loop-c.parent c.loop-c.shared c.loop-c.fresh) (λ v. get_or c.loop-c.seen v 0) c.in-Some.c c.loop-c.invariant.6 c.in-Some.ensures.0 c.in-Some.ensures.1.0)
 
 pub loop-c-smaller : goal.loop-c-smaller
 loop-c-smaller c = omega (arith, c.requires.few, open_room (of c.args.atoms.now) (length c.args.atoms.now) c.args.start c.loop-c.k (ranks c.loop-c.at c.loop-c.rank c.loop-c.parent c.loop-c.shared c.loop-c.fresh) (λ v. get_or c.loop-c.seen v 0) c.in-Some.c c.loop-c.invariant.6 c.in-Some.ensures.0 c.in-Some.ensures.1.0)
@@ -75,8 +75,8 @@ returns c =
     let a = ranks c.loop-c.at c.loop-c.rank c.loop-c.parent c.loop-c.shared c.loop-c.fresh in
     let seen : ℕ → ℕ = λ v. get_or c.loop-c.seen v 0 in
     record {
-      ordered = taking_all q m c.args.start c.loop-c.k a seen c.loop-c.invariant.6 c.in-default.ensures c.requires.used c.requires.connected c.requires.some;
-      chosen = chosen_all q m c.args.start c.loop-c.k a seen c.loop-c.invariant.6 c.in-default.ensures c.requires.used c.requires.connected;
+      ordered = taking_all q m c.args.start c.loop-c.k a seen c.loop-c.invariant.6 c.in_default.ensures c.requires.used c.requires.connected c.requires.some;
+      chosen = chosen_all q m c.args.start c.loop-c.k a seen c.loop-c.invariant.6 c.in_default.ensures c.requires.used c.requires.connected;
     }
 
 pub sides-s-requires : goal.sides-s-requires

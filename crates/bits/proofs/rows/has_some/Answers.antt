@@ -5,7 +5,7 @@ use Rattle.bits.proofs.rows.has_some.Goals as goal
 
 pub returns-then-words-i-ne0 : goal.returns-then-words-i-ne0
 returns-then-words-i-ne0 c = (
-  (λ _. some_bit_from c.args.words.now c.args.start c.args.count c.loop-i.i (omega arith) (omega arith) (c.type-inv.words c.loop-i.i).fits (omega arith)),
+  (λ _. some_bit_from c.args.words.now c.args.start c.args.count c.loop-i.i (omega arith) (omega arith) (c.type_inv.words c.loop-i.i).fits (omega arith)),
   λ _. refl,
 )
 

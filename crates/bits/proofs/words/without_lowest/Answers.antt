@@ -8,7 +8,7 @@ use Rattle.bits.proofs.words.without_lowest.Goals as goal
 pub returns : goal.returns
 returns c =
     let w = c.args.word in
-    let r = c.saturating-sub.result in
+    let r = c.saturating_sub.result in
     let e : w - 1 ≡ r = omega arith in
     record {
       bits = λ i j h. subst (λ (z : ℕ). bit (bit_and w z) j ≡ cond (eqb i j) false (bit w j)) e (bit_dropped i w j h);

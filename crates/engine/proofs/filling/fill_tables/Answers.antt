@@ -15,26 +15,26 @@ use Rattle.engine.specs.Filled.{Raw}
 use Rattle.engine.proofs.Tabling.{filled_from, raw_ready}
 use Rattle.engine.proofs.filling.fill_tables.Goals as goal
 
-pub reduce-all-requires : goal.reduce-all-requires
-reduce-all-requires g c =
+pub reduce_all-requires : goal.reduce_all-requires
+reduce_all-requires g c =
     let G = g.G.Graph.graph c.args.graph.now in
     let N = G.nodes in
     let p = c.args.parsed.now in
     let m = p.query.count in
-    let n = c.node-count-n.result in
+    let n = c.node_count-n.result in
     let W = c.width.result in
-    let Y = c.fill-each.new.words in
+    let Y = c.fill_each.new.words in
     let E = c.ends-pairs.result in
     let L : length (take m E) ≡ m = omega (arith, length-take m E, c.ends-pairs.ensures.long, c.requires.some.1) in
-    let size : n * W ≡ N * width N = ap (λ (y : ℕ). n * y) c.width.ensures ∙ ap (λ (y : ℕ). y * width y) c.node-count-n.ensures in
+    let size : n * W ≡ N * width N = ap (λ (y : ℕ). n * y) c.width.ensures ∙ ap (λ (y : ℕ). y * width y) c.node_count-n.ensures in
     let room : m * (n * W) + (N + N) ≤ length Y = subst (λ (y : ℕ). m * y + (N + N) ≤ length Y) (sym size) (omega (arith, c.requires.room)) in
     let room' : length (take m E) * (n * W) + (N + N) ≤ length Y = subst (λ (y : ℕ). y * (n * W) + (N + N) ≤ length Y) (sym L) room in
-    let ready = raw_ready G p.query.atoms m c.args.words.now Y c.requires.some.0 c.fill-each.ensures in
+    let ready = raw_ready G p.query.atoms m c.args.words.now Y c.requires.some.0 c.fill_each.ensures in
     record {
       some = (omega (arith, c.requires.some.0), omega (arith, c.requires.some.1));
       wide = omega arith;
       room = omega (arith, G.sized.0);
-      ready = subst (λ (y : ℕ). Ready Y y n W) (sym L) (subst (λ (y : ℕ). Ready Y m n y) (sym c.width.ensures) (subst (λ (y : ℕ). Ready Y m y (width y)) (sym c.node-count-n.ensures) ready));
+      ready = subst (λ (y : ℕ). Ready Y y n W) (sym L) (subst (λ (y : ℕ). Ready Y m n y) (sym c.width.ensures) (subst (λ (y : ℕ). Ready Y m y (width y)) (sym c.node_count-n.ensures) ready));
       ordered = c.requires.order E c.ends-pairs.ensures.long c.ends-pairs.ensures.each;
     }
 
@@ -43,17 +43,17 @@ returns g c xs a =
     let G = g.G.Graph.graph c.args.graph.now in
     let p = c.args.parsed.now in
     let m = p.query.count in
-    let n = c.node-count-n.result in
+    let n = c.node_count-n.result in
     let W = c.width.result in
-    let X = c.reduce-all.new.words in
-    let Y = c.fill-each.new.words in
+    let X = c.reduce_all.new.words in
+    let Y = c.fill_each.new.words in
     let E = c.ends-pairs.result in
     let s = a.atoms in
     let same = ends_are E a.holds c.ends-pairs.ensures.long c.ends-pairs.ensures.each in
-    let passed = subst (λ (y : ℕ). Passed (of (ends s)) (number s) Y X y (width y)) c.node-count-n.ensures
+    let passed = subst (λ (y : ℕ). Passed (of (ends s)) (number s) Y X y (width y)) c.node_count-n.ensures
     (subst (λ (y : ℕ). Passed (of (ends s)) (number s) Y X n y) c.width.ensures
     (subst (λ (y : ℕ). Passed (of (ends s)) y Y X n W) (ends_long s)
-    (subst (λ (y : List Ends). Passed (of y) (length y) Y X n W) same c.reduce-all.ensures))) in
-    let raw = subst (λ (y : ℕ). Raw G p.query.atoms y c.args.words.now Y y) a.holds.count c.fill-each.ensures in
+    (subst (λ (y : List Ends). Passed (of y) (length y) Y X n W) same c.reduce_all.ensures))) in
+    let raw = subst (λ (y : ℕ). Raw G p.query.atoms y c.args.words.now Y y) a.holds.count c.fill_each.ensures in
     filled_from G p.query.atoms no_atom (meaning a.head s) c.args.words.now Y X raw
     (λ d l. recognized no_atom p.query.atoms (length (names a.head) + 1) s (a.holds.rows no_atom) (one any) d l) (number_some s) passed

@@ -4,8 +4,8 @@ use Rattle.joins.proofs.Siding.{row_end, joined_from}
 use Rattle.joins.proofs.Placing.{reduced_from}
 use Rattle.joins.proofs.passes.semijoin.Goals as goal
 
-pub overflow-mul-size : goal.overflow-mul-size
-overflow-mul-size c =
+pub overflow_mul-size : goal.overflow_mul-size
+overflow_mul-size c =
     let l : c.args.n * c.args.w ≤ length c.args.words.now = omega (arith, row_end c.args.into (length c.args.atoms.now) (c.args.n * c.args.w) c.requires.into) in
     search rules
 

@@ -5,13 +5,13 @@ use Rattle.joins.proofs.sides.keep_firsts.Goals as goal
 pub loop-u-init : goal.loop-u-init
 loop-u-init c = kept_none c.args.words.now c.args.start c.args.w c.args.mask true
 
-pub overflow-add-start : goal.overflow-add-start
-overflow-add-start c = omega (arith, row_end c.loop-u.u c.args.n c.args.w (omega arith))
+pub overflow_add-start : goal.overflow_add-start
+overflow_add-start c = omega (arith, row_end c.loop-u.u c.args.n c.args.w (omega arith))
 
-pub keep-row-requires : goal.keep-row-requires
-keep-row-requires c = record { apart = omega (arith, row_end c.loop-u.u c.args.n c.args.w (omega arith)); room = omega arith; wide = omega arith }
+pub keep_row-requires : goal.keep_row-requires
+keep_row-requires c = record { apart = omega (arith, row_end c.loop-u.u c.args.n c.args.w (omega arith)); room = omega arith; wide = omega arith }
 
 pub loop-u-preserved : goal.loop-u-preserved
 loop-u-preserved c =
-    kept_more c.args.words.now c.loop-u.words c.keep-row.new.words c.args.start c.loop-u.u c.args.w c.args.mask
-    (omega (arith, row_end c.loop-u.u c.args.n c.args.w (omega arith))) (omega arith) c.loop-u.invariant c.keep-row.ensures
+    kept_more c.args.words.now c.loop-u.words c.keep_row.new.words c.args.start c.loop-u.u c.args.w c.args.mask
+    (omega (arith, row_end c.loop-u.u c.args.n c.args.w (omega arith))) (omega arith) c.loop-u.invariant c.keep_row.ensures

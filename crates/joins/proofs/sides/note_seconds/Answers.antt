@@ -5,8 +5,8 @@ use Rattle.joins.proofs.sides.note_seconds.Goals as goal
 pub loop-u-init : goal.loop-u-init
 loop-u-init c = noted_none c.args.words.now c.args.start c.args.w c.args.mask false
 
-pub overflow-add-start : goal.overflow-add-start
-overflow-add-start c = omega (arith, row_end c.loop-u.u c.args.n c.args.w (omega arith))
+pub overflow_add-start : goal.overflow_add-start
+overflow_add-start c = omega (arith, row_end c.loop-u.u c.args.n c.args.w (omega arith))
 
 pub widen-requires : goal.widen-requires
 widen-requires c = record { apart = omega (arith, row_end c.loop-u.u c.args.n c.args.w (omega arith)); room = omega arith }

@@ -13,8 +13,8 @@ returns-then-answer-h c =
 pub bounds-tuple-i : goal.bounds-tuple-i
 bounds-tuple-i c = let q = c.args.query.now in omega (arith, head_few q.parsed q.held)
 
-pub invariant-of-query : goal.invariant-of-query
-invariant-of-query c =
+pub invariant_of-query : goal.invariant_of-query
+invariant_of-query c =
     let q = c.args.query.now in (
       q.held,
       (

@@ -8,12 +8,12 @@ needed-requires g c =
     let q = c.args.query.now in
     record { few = (count_few q.parsed q.held, omega (arith, (g.G.Graph.graph c.args.graph.now).sized.1)) }
 
-pub fill-tables-requires : goal.fill-tables-requires
-fill-tables-requires g c =
+pub fill_tables-requires : goal.fill_tables-requires
+fill_tables-requires g c =
     let q = c.args.query.now in
-    let room : needed q.parsed.query.count c.node-count-nodes.result ≤ length c.args.words.now = omega arith in
+    let room : needed q.parsed.query.count c.node_count-nodes.result ≤ length c.args.words.now = omega arith in
     record {
       some = (count_some q.parsed q.held, count_few q.parsed q.held);
       order = arranged q.parsed q.held;
-      room = subst (λ (y : ℕ). needed q.parsed.query.count y ≤ length c.args.words.now) c.node-count-nodes.ensures room;
+      room = subst (λ (y : ℕ). needed q.parsed.query.count y ≤ length c.args.words.now) c.node_count-nodes.ensures room;
     }

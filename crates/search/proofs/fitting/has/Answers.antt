@@ -10,14 +10,14 @@ returns-then-u-n c = elim c.then-u-n.either [
   | inr h ↦ sym (tables_column c.args.words.now c.args.m c.args.n c.args.w c.args.c c.args.u c.args.v h.1)
 ]
 
-pub overflow-mul-n : goal.overflow-mul-n
-overflow-mul-n c = omega (arith, row_end c.args.c c.args.m (c.args.n * c.args.w) (omega arith))
+pub overflow_mul-n : goal.overflow_mul-n
+overflow_mul-n c = omega (arith, row_end c.args.c c.args.m (c.args.n * c.args.w) (omega arith))
 
-pub overflow-mul-u : goal.overflow-mul-u
-overflow-mul-u c = omega (arith, row_end c.args.c c.args.m (c.args.n * c.args.w) (omega arith), row_end c.args.u c.args.n c.args.w (omega arith))
+pub overflow_mul-u : goal.overflow_mul-u
+overflow_mul-u c = omega (arith, row_end c.args.c c.args.m (c.args.n * c.args.w) (omega arith), row_end c.args.u c.args.n c.args.w (omega arith))
 
-pub overflow-add-c : goal.overflow-add-c
-overflow-add-c c = omega (arith, row_end c.args.c c.args.m (c.args.n * c.args.w) (omega arith), row_end c.args.u c.args.n c.args.w (omega arith))
+pub overflow_add-c : goal.overflow_add-c
+overflow_add-c c = omega (arith, row_end c.args.c c.args.m (c.args.n * c.args.w) (omega arith), row_end c.args.u c.args.n c.args.w (omega arith))
 
 pub test-requires : goal.test-requires
 test-requires c =

@@ -20,7 +20,7 @@ returns g c =
     let B = λ (x w t : ℕ). (s : ℕ) × Has x s × Moves G.has G.labels m v s w t in
     let l = half_length N Z c.requires.scratch in
     let b : v < length (drop N Z) = omega arith in
-    let e = c.node-count-n.ensures in
+    let e = c.node_count-n.ensures in
     let grown = halved N N refl Z Y v B (subst (λ (y : ℕ). Grew N (set Z (y + v) 0) Y (B (get_or Z (y + v) 0))) e c.step.ensures) in
     let some : 0 < get_or (drop N Z) v 0 = rw get_or-drop (subst (λ (y : ℕ). 0 < get_or Z (y + v) 0) e (omega arith)) in
     record {
@@ -33,5 +33,5 @@ pub returns-then-states-eq0 : goal.returns-then-states-eq0
 returns-then-states-eq0 g c = record {
   on = λ S k. k;
   less = omega arith;
-  none = λ f. (refl, rw get_or-drop (subst (λ (y : ℕ). get_or c.args.z.now (y + c.args.node) 0 ≡ 0) c.node-count-n.ensures c.if-states-eq0.true));
+  none = λ f. (refl, rw get_or-drop (subst (λ (y : ℕ). get_or c.args.z.now (y + c.args.node) 0 ≡ 0) c.node_count-n.ensures c.if-states-eq0.true));
 }

@@ -11,7 +11,7 @@ loop-init g c =
     let G = g.G.Graph.graph c.args.graph.now in
     let Z = c.args.z.now in
     let few : Small (take G.nodes Z) = λ v. ⊎_elim
-    (λ (l : v < G.nodes). subst (λ (y : ℕ). y < 2 ^ 64) (sym (get_or-take G.nodes Z v 0 l)) (c.type-inv.z v).fits)
+    (λ (l : v < G.nodes). subst (λ (y : ℕ). y < 2 ^ 64) (sym (get_or-take G.nodes Z v 0 l)) (c.type_inv.z v).fits)
     (λ (l : G.nodes ≤ v). let past : get_or (take G.nodes Z) v 0 ≡ 0 = get_or_past (take G.nodes Z) v 0 (simp length-take (omega arith)) in omega arith) (cases_lt v G.nodes) in
     (c.requires.scratch, walked_none G.has G.labels c.args.auto.now G.nodes Z c.requires.seeds few)
 

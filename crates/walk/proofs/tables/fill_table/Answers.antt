@@ -10,15 +10,15 @@ use Rattle.walk.proofs.tables.fill_table.Goals as goal
 pub loop-source-init : goal.loop-source-init
 loop-source-init g c = table_none _ _ _ _ _ _
 
-pub write-row-requires : goal.write-row-requires
-write-row-requires g c =
-    let n = c.node-count-n.result in
+pub write_row-requires : goal.write_row-requires
+write_row-requires g c =
+    let n = c.node_count-n.result in
     let t = c.args.scratch in
     let row = c.width-row.result in
-    let table : c.args.start + n * row ≤ t = subst (λ (k : ℕ). c.args.start + n * k ≤ t) (sym c.width-row.ensures) (subst (λ (y : ℕ). c.args.start + y * width y ≤ t) (sym c.node-count-n.ensures) c.requires.table) in
+    let table : c.args.start + n * row ≤ t = subst (λ (k : ℕ). c.args.start + n * k ≤ t) (sym c.width-row.ensures) (subst (λ (y : ℕ). c.args.start + y * width y ≤ t) (sym c.node_count-n.ensures) c.requires.table) in
     let l : t + (n + n) ≤ length c.loop-source.words = omega arith in
-    let len : length c.walk-from.new.z ≡ (t + (n + n)) - t = c.walk-from.auto.z ∙ part_length c.loop-source.words t (t + (n + n)) l in
-    let p = put_length t ((t + (n + n)) - t) c.loop-source.words c.walk-from.new.z (omega arith) len in
+    let len : length c.walk_from.new.z ≡ (t + (n + n)) - t = c.walk_from.auto.z ∙ part_length c.loop-source.words t (t + (n + n)) l in
+    let p = put_length t ((t + (n + n)) - t) c.loop-source.words c.walk_from.new.z (omega arith) len in
     record {
       scratch = omega arith;
       before = omega (arith, row_end c.loop-source.source n row (omega arith), c.width-row.ensures);
@@ -28,25 +28,25 @@ pub loop-source-preserved : goal.loop-source-preserved
 loop-source-preserved g c =
     let G = g.G.Graph.graph c.args.graph.now in
     let m = c.args.auto.now in
-    let n = c.node-count-n.result in
+    let n = c.node_count-n.result in
     let t = c.args.scratch in
     let a = c.args.start in
     let row = c.width-row.result in
     let u = c.loop-source.source in
     let X = c.args.words.now in
     let Y = c.loop-source.words in
-    let ys = c.walk-from.new.z in
-    let Y₂ = c.write-row.new.words in
+    let ys = c.walk_from.new.z in
+    let Y₂ = c.write_row.new.words in
     let k = (t + (n + n)) - t in
     let P = Spells G.has G.labels m in
     let e : k ≡ n + n = omega arith in
-    let table : a + n * row ≤ t = subst (λ (w : ℕ). a + n * w ≤ t) (sym c.width-row.ensures) (subst (λ (y : ℕ). a + y * width y ≤ t) (sym c.node-count-n.ensures) c.requires.table) in
+    let table : a + n * row ≤ t = subst (λ (w : ℕ). a + n * w ≤ t) (sym c.width-row.ensures) (subst (λ (y : ℕ). a + y * width y ≤ t) (sym c.node_count-n.ensures) c.requires.table) in
     let l : t + (n + n) ≤ length Y = omega arith in
     let l' : t + k ≤ length Y = omega arith in
-    let len : length ys ≡ k = c.walk-from.auto.z ∙ part_length Y t (t + (n + n)) l in
-    let walked = subst (λ (y : ℕ). (v s : ℕ) → In (take y ys) v s ↔ ((x : List ℕ) × Path G.has u x v × Leads G.labels m 0 x s)) (sym c.node-count-n.ensures) c.walk-from.ensures in
+    let len : length ys ≡ k = c.walk_from.auto.z ∙ part_length Y t (t + (n + n)) l in
+    let walked = subst (λ (y : ℕ). (v s : ℕ) → In (take y ys) v s ↔ ((x : List ℕ) × Path G.has u x v × Leads G.labels m 0 x s)) (sym c.node_count-n.ensures) c.walk_from.ensures in
     let Q = Kept (put_mid t k Y ys) t n m.accept in
-    let written = subst (λ (w : ℕ). RowAt Q (put_mid t k Y ys) Y₂ (a + u * row) w) (sym c.width-row.ensures) c.write-row.ensures in
+    let written = subst (λ (w : ℕ). RowAt Q (put_mid t k Y ys) Y₂ (a + u * row) w) (sym c.width-row.ensures) c.write_row.ensures in
     subst (λ (y : ℕ). TableAt P X Y₂ a row (u + 1) t y) e
     (table_more P Q X Y ys Y₂ a row u n t k
     (subst (λ (y : ℕ). TableAt P X Y a row u t y) (sym e) c.loop-source.invariant) len table l' (omega arith) written
@@ -57,7 +57,7 @@ returns g c =
     let G = g.G.Graph.graph c.args.graph.now in
     let N = G.nodes in
     let m = c.args.auto.now in
-    let n = c.node-count-n.result in
+    let n = c.node_count-n.result in
     let t = c.args.scratch in
     let a = c.args.start in
     let row = c.width-row.result in
@@ -67,8 +67,8 @@ returns g c =
     let P = Spells G.has G.labels m in
     let e : c.loop-source.source ≡ n = omega arith in
     let written = subst (λ (w : ℕ). TableAt P X Y a w n t (n + n)) c.width-row.ensures (subst (λ (y : ℕ). TableAt P X Y a row y t (n + n)) e c.loop-source.invariant) in
-    let table = subst (λ (y : ℕ). TableAt P X Y a (width y) y t (y + y)) c.node-count-n.ensures written in
-    let cleared = subst (λ (y : ℕ). Cleared Y Y₂ t (y + y)) c.node-count-n.ensures c.clear.ensures in
+    let table = subst (λ (y : ℕ). TableAt P X Y a (width y) y t (y + y)) c.node_count-n.ensures written in
+    let cleared = subst (λ (y : ℕ). Cleared Y Y₂ t (y + y)) c.node_count-n.ensures c.clear.ensures in
     record {
       pairs = λ r recognizes few. table_tells P X Y Y₂ a N t c.requires.table table cleared (Joins G.has G.labels r) (spells_joins G.has G.labels m r recognizes few);
       written = table_written P X Y Y₂ a N t c.requires.table table cleared (λ u v l s. path_below G.has N (λ x b y h. (G.legal x b y h).2) s.0 u v l s.1);

@@ -13,5 +13,5 @@ pub returns : goal.returns
 returns c =
     let a = c.args.e.label in
     let line : List ℕ → List ℕ = λ l. decimal c.args.e.from ++ (codes " " ++ (l ++ (codes " " ++ decimal c.args.e.to))) in
-    let shown : encode c.letter-of-label.result ≡ letter a ∷ [] = ap encode c.letter-of-label.ensures ∙ encode_ascii (letter a) (letter_ascii a) in
+    let shown : encode c.letter_of-label.result ≡ letter a ∷ [] = ap encode c.letter_of-label.ensures ∙ encode_ascii (letter a) (letter_ascii a) in
     IfOk-weaker c.format.result _ _ (λ s e. e ∙ ap line shown) c.format.ensures.ok

@@ -14,7 +14,7 @@ loop-to-preserved g c =
     let v = c.in-Some.to in
     let low = c.in-Some.ensures in
     let fit = m.legal u a v low.1 in
-    let after = pushed (edge u a v ∷ []) refl c.in-ok-push.was c.push.ensures.items in (
+    let after = pushed (edge u a v ∷ []) refl c.in_ok-push.was c.push.ensures.items in (
       omega (arith, fit.2),
       λ before. subst (λ (xs : List Edge). Lists (WireBelow m (edge u a (v + 1))) xs) (sym after)
           (row_more m u a c.loop-to.bound (vec_items c.loop-to.list) (c.loop-to.invariant.1 before) v low),
@@ -23,4 +23,4 @@ loop-to-preserved g c =
 pub returns : goal.returns
 returns g c =
     λ before. row_all (g.G.Graph.graph c.args.graph.now) c.args.node c.args.label c.loop-to.bound
-    (vec_items c.loop-to.list) (c.loop-to.invariant.1 before) c.in-default.ensures
+    (vec_items c.loop-to.list) (c.loop-to.invariant.1 before) c.in_default.ensures

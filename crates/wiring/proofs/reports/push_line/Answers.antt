@@ -7,6 +7,6 @@ pub returns : goal.returns
 unfolding encode
 returns c =
     let line = c.args.line.now in
-    let first = pushed line refl c.in-ok-push-str.was c.push-str.ensures.bytes in
-    let then' = pushed (10 ∷ []) first c.in-ok-push.was c.push.ensures.bytes in
+    let first = pushed line refl c.in_ok-push_str.was c.push_str.ensures.bytes in
+    let then' = pushed (10 ∷ []) first c.in_ok-push.was c.push.ensures.bytes in
     then' ∙ append_assoc (string_bytes c.args.out.now) line (10 ∷ [])

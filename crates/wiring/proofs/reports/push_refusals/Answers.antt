@@ -8,8 +8,8 @@ use Rattle.wiring.proofs.reports.push_refusals.Goals as goal
 pub loop-refusal-preserved : goal.loop-refusal-preserved
 loop-refusal-preserved c =
     text_more refused_text c.args.refusals.now (string_bytes c.args.out.now) c.loop-refusal.refusal-index (refusal Cut 0)
-    (string_bytes c.loop-refusal.out) (string_bytes c.push-line.new.out) c.as-str.result.now
-    c.loop-refusal-test.true c.loop-refusal.invariant (c.as-str.ensures.value ∙ c.in-ok-line.ensures) c.in-ok-push-line.ensures
+    (string_bytes c.loop-refusal.out) (string_bytes c.push_line.new.out) c.as_str.result.now
+    c.loop-refusal-test.true c.loop-refusal.invariant (c.as_str.ensures.value ∙ c.in_ok-line.ensures) c.in_ok-push_line.ensures
 
 pub returns : goal.returns
 returns c =

@@ -7,8 +7,8 @@ use Rattle.wiring.proofs.reports.push_wires.Goals as goal
 pub loop-e-preserved : goal.loop-e-preserved
 loop-e-preserved c =
     text_more wire_text c.args.wires.now (string_bytes c.args.out.now) c.loop-e.e-index blank
-    (string_bytes c.loop-e.out) (string_bytes c.push-line.new.out) c.as-str.result.now
-    c.loop-e-test.true c.loop-e.invariant (c.as-str.ensures.value ∙ c.in-ok-line.ensures) c.in-ok-push-line.ensures
+    (string_bytes c.loop-e.out) (string_bytes c.push_line.new.out) c.as_str.result.now
+    c.loop-e-test.true c.loop-e.invariant (c.as_str.ensures.value ∙ c.in_ok-line.ensures) c.in_ok-push_line.ensures
 
 pub returns : goal.returns
 returns c =

@@ -4,8 +4,8 @@ use Rattle.graph.proofs.Among.{among_append, distinct_append}
 use Rattle.graph.proofs.OneEdge.{count_put, legal_changed}
 use Rattle.graph.proofs.list.EdgeList.append.Goals as goal
 
-pub invariant-of-self : goal.invariant-of-self
-invariant-of-self c =
+pub invariant_of-self : goal.invariant_of-self
+invariant_of-self c =
     let s = c.args.self.now in
     let xs = s.slots.now in
     let e = c.args.e in

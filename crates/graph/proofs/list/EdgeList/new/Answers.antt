@@ -4,8 +4,8 @@ use Rattle.meaning.proofs.Counts.{count_none}
 use Rattle.graph.specs.Edges.{among}
 use Rattle.graph.proofs.list.EdgeList.new.Goals as goal
 
-pub invariant-of-result : goal.invariant-of-result
-invariant-of-result c =
+pub invariant_of-result : goal.invariant_of-result
+invariant_of-result c =
     let sized = c.args.sizes.sized in (
       search rules,
       (

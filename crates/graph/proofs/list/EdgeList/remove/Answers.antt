@@ -5,8 +5,8 @@ use Rattle.graph.proofs.Among.{among_at, among_remove, distinct_remove}
 use Rattle.graph.proofs.OneEdge.{count_strike, legal_changed}
 use Rattle.graph.proofs.list.EdgeList.remove.Goals as goal
 
-pub invariant-of-self : goal.invariant-of-self
-invariant-of-self c =
+pub invariant_of-self : goal.invariant_of-self
+invariant_of-self c =
     let s = c.args.self.now in
     let xs = s.slots.now in
     let i = c.args.i in

@@ -12,28 +12,28 @@ pub returns-in-Some : goal.returns-in-Some
 returns-in-Some c =
     let s = c.args.self.now in
     let h = c.in-Some.ensures in
-    let fine = c.in-ok-check-edge.ensures in
+    let fine = c.in_ok-check_edge.ensures in
     let there = among_at s.slots.now s.len c.in-Some.field-0 c.args.e h.0 h.1 in
     record { puts = (put_taken_there (graph_of_list s) c.args.e fine.0 there, there, refl); memory = refl; lender = refl }
 
-pub returns-then-is-full : goal.returns-then-is-full
-returns-then-is-full c =
+pub returns-then-is_full : goal.returns-then-is_full
+returns-then-is_full c =
     let s = c.args.self.now in
-    let fine = c.in-ok-check-edge.ensures in
-    let full : length s.slots.now ≤ size (graph_of_list s) = omega (arith, leb-true _ _ (sym c.if-is-full.ensures), s.counted) in
-    record { puts = (put_full (graph_of_list s) c.args.e fine.0 c.in-default.ensures full, refl); memory = refl; lender = refl }
+    let fine = c.in_ok-check_edge.ensures in
+    let full : length s.slots.now ≤ size (graph_of_list s) = omega (arith, leb-true _ _ (sym c.if-is_full.ensures), s.counted) in
+    record { puts = (put_full (graph_of_list s) c.args.e fine.0 c.in_default.ensures full, refl); memory = refl; lender = refl }
 
 pub returns : goal.returns
 returns c =
     let s = c.args.self.now in
     let t = c.append.new.self in
     let e = c.args.e in
-    let fine = c.in-ok-check-edge.ensures in
-    let room : size (graph_of_list s) < length s.slots.now = omega (arith, leb-false _ _ (sym c.if-is-full.ensures), s.counted) in
+    let fine = c.in_ok-check_edge.ensures in
+    let room : size (graph_of_list s) < length s.slots.now = omega (arith, leb-false _ _ (sym c.if-is_full.ensures), s.counted) in
     record {
       puts = (
         put_taken_new (graph_of_list s) e fine.0 room,
-        c.in-default.ensures,
+        c.in_default.ensures,
         record {
           nodes = c.append.ensures.nodes;
           labels = c.append.ensures.labels;
@@ -41,7 +41,7 @@ returns c =
           edges = λ u a v.
               ap (λ (ys : List Edge). among ys t.len u a v) c.append.ensures.slots
               ∙ ap (λ (k : ℕ). among (set s.slots.now s.len e) k u a v) c.append.ensures.len
-              ∙ among_append s.slots.now s.len e (leb-false _ _ (sym c.if-is-full.ensures)) u a v;
+              ∙ among_append s.slots.now s.len e (leb-false _ _ (sym c.if-is_full.ensures)) u a v;
         },
       );
       memory = c.append.ensures.slots;

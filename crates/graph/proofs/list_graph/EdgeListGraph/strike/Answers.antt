@@ -14,7 +14,7 @@ returns-in-Some c =
     let i = c.in-Some.i in
     record {
       strikes = (
-        c.in-ok-check-edge.ensures.0,
+        c.in_ok-check_edge.ensures.0,
         among_at s.slots.now s.len i e h.0 h.1,
         record {
           nodes = c.remove.ensures.nodes;

@@ -4,13 +4,13 @@ use Rattle.graph.proofs.InTable.{table_changed, count_small}
 use Rattle.graph.proofs.OneEdge.{count_put}
 use Rattle.graph.proofs.table.SmallTable.mark.Goals as goal
 
-pub overflow-add-self : goal.overflow-add-self
-overflow-add-self c =
+pub overflow_add-self : goal.overflow_add-self
+overflow_add-self c =
     let s = c.args.self.now in
     omega (arith, s.counted, count_small s.nodes s.labels (in_table s.nodes s.labels s.words) s.sized.1 s.sized.3)
 
-pub invariant-of-self : goal.invariant-of-self
-invariant-of-self c =
+pub invariant_of-self : goal.invariant_of-self
+invariant_of-self c =
     let s = c.args.self.now in
     let e = c.args.e in
     let ws = set s.words (e.label * 64 + e.from) c.marked.result in

@@ -5,8 +5,8 @@ use Rattle.graph.specs.Rows.{in_table}
 use Rattle.graph.proofs.InTable.{table_none}
 use Rattle.graph.proofs.table.SmallTable.new.Goals as goal
 
-pub invariant-of-result : goal.invariant-of-result
-invariant-of-result c =
+pub invariant_of-result : goal.invariant_of-result
+invariant_of-result c =
     let s = c.args.sizes in (
       s.sized,
       (

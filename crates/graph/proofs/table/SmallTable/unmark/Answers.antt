@@ -4,8 +4,8 @@ use Rattle.graph.proofs.InTable.{table_changed, legal_in_table}
 use Rattle.graph.proofs.OneEdge.{count_strike}
 use Rattle.graph.proofs.table.SmallTable.unmark.Goals as goal
 
-pub overflow-sub-self : goal.overflow-sub-self
-overflow-sub-self c =
+pub overflow_sub-self : goal.overflow_sub-self
+overflow_sub-self c =
     let s = c.args.self.now in
     let e = c.args.e in
     let fit = legal_in_table s.nodes s.labels s.words e c.requires.old in
@@ -13,8 +13,8 @@ overflow-sub-self c =
     let change = table_changed s.nodes s.labels s.words e false c.cleared.result s.sized.1 s.sized.3 s.wide fit c.cleared.ensures in
     omega (arith, s.counted, count_strike s.nodes s.labels e (in_table s.nodes s.labels s.words) (in_table s.nodes s.labels ws) fit c.requires.old change)
 
-pub invariant-of-self : goal.invariant-of-self
-invariant-of-self c =
+pub invariant_of-self : goal.invariant_of-self
+invariant_of-self c =
     let s = c.args.self.now in
     let e = c.args.e in
     let fit = legal_in_table s.nodes s.labels s.words e c.requires.old in

@@ -10,7 +10,7 @@ returns c =
     let s = c.args.self.now in
     let t = c.mark.new.self in
     let e = c.args.e in
-    let fine = c.in-ok-check-edge.ensures in
+    let fine = c.in_ok-check_edge.ensures in
     let lacks = sym c.if-test.ensures in
     record {
       puts = (
