@@ -6,16 +6,10 @@ use Rattle.graph.proofs.list.EdgeList.new.Goals as goal
 
 pub invariant_of-result : goal.invariant_of-result
 invariant_of-result c =
-    let sized = c.args.sizes.sized in (
-      search rules,
-      (
-        omega arith,
-        (
-          λ e t. absurd (false≢true t),
-          (
-            λ i l. absurd (omega arith),
-            (count_none _ _ (among c.args.slots.now 0) (λ u a v. refl), tt),
-          ),
-        ),
-      ),
-    )
+    let sized = c.args.sizes.sized in record {
+      sized = search rules;
+      within = omega arith;
+      legal = λ e t. absurd (false≢true t);
+      distinct = λ i l. absurd (omega arith);
+      counted = count_none _ _ (among c.args.slots.now 0) (λ u a v. refl);
+    }

@@ -17,16 +17,10 @@ invariant_of-self c =
     let fit = s.legal e there in
     let change = among_remove xs s.len i s.within c.requires s.distinct e refl in
     let less = count_strike s.nodes s.labels e old new fit there change in
-    let was = s.counted in (
-      s.sized,
-      (
-        simp length-set (omega arith),
-        (
-          legal_changed s.nodes s.labels e false old new fit change s.legal,
-          (
-            distinct_remove xs s.len i s.within c.requires s.distinct,
-            (omega (arith, less, was), tt),
-          ),
-        ),
-      ),
-    )
+    let was = s.counted in record {
+      sized = s.sized;
+      within = simp length-set (omega arith);
+      legal = legal_changed s.nodes s.labels e false old new fit change s.legal;
+      distinct = distinct_remove xs s.len i s.within c.requires s.distinct;
+      counted = omega (arith, less, was);
+    }

@@ -14,17 +14,12 @@ invariant_of-self c =
     let s = c.args.self.now in
     let e = c.args.e in
     let ws = set s.words (e.label * 64 + e.from) c.marked.result in
-    let change = table_changed s.nodes s.labels s.words e true c.marked.result s.sized.1 s.sized.3 s.wide c.requires.legal c.marked.ensures in (
-      s.sized,
-      (
-        simp length-set s.wide,
-        (
-          count_put s.nodes s.labels e (in_table s.nodes s.labels s.words) (in_table s.nodes s.labels ws) c.requires.legal c.requires.new change
-              ∙ ap (λ k. k + 1) s.counted,
-          tt,
-        ),
-      ),
-    )
+    let change = table_changed s.nodes s.labels s.words e true c.marked.result s.sized.1 s.sized.3 s.wide c.requires.legal c.marked.ensures in record {
+      sized = s.sized;
+      wide = simp length-set s.wide;
+      counted = count_put s.nodes s.labels e (in_table s.nodes s.labels s.words) (in_table s.nodes s.labels ws) c.requires.legal c.requires.new change
+          ∙ ap (λ k. k + 1) s.counted;
+    }
 
 pub returns : goal.returns
 returns c =

@@ -7,13 +7,11 @@ use Rattle.graph.proofs.table.SmallTable.new.Goals as goal
 
 pub invariant_of-result : goal.invariant_of-result
 invariant_of-result c =
-    let s = c.args.sizes in (
-      s.sized,
-      (
-        length-replicate {A = ℕ} 1664 0,
-        (count_none s.nodes s.labels (in_table s.nodes s.labels (replicate 1664 0)) (table_none s.nodes s.labels), tt),
-      ),
-    )
+    let s = c.args.sizes in record {
+      sized = s.sized;
+      wide = length-replicate {A = ℕ} 1664 0;
+      counted = count_none s.nodes s.labels (in_table s.nodes s.labels (replicate 1664 0)) (table_none s.nodes s.labels);
+    }
 
 pub returns : goal.returns
 returns c =

@@ -22,7 +22,11 @@ invariant_of-self c =
     let change = table_changed s.nodes s.labels s.words e false c.cleared.result s.sized.1 s.sized.3 s.wide fit c.cleared.ensures in
     let less = count_strike s.nodes s.labels e (in_table s.nodes s.labels s.words) (in_table s.nodes s.labels ws) fit c.requires.old change in
     let was = s.counted in
-    (s.sized, (simp length-set s.wide, (omega (arith, less, was), tt)))
+    record {
+      sized = s.sized;
+      wide = simp length-set s.wide;
+      counted = omega (arith, less, was);
+    }
 
 pub returns : goal.returns
 returns c =

@@ -53,19 +53,19 @@ step-returns t c = with_signs c.in_ok-unit.ensures c.signs.ensures
 pub unit-returns-in_default : goal.unit-returns-in_default
 unit-returns-in_default t c = at_end c.args.self.now c.args.out.now c.requires.1 c.in_default.ensures.rest c.requires.0
 
-pub unit-returns-in_err-part : goal.unit-returns-in_err-part
-unit-returns-in_err-part t c =
+pub unit-returns-in_err-part-in-40 : goal.unit-returns-in_err-part-in-40
+unit-returns-in_err-part-in-40 t c =
     let p = err_from_is_err_and c.from_residual.result c.from_residual.ensures.1 in
-    rw (p.1, p.2) (fails_inside c.in-Some.c c.in-Some.ensures.rest c.in-40.is refl refl c.in_err-part.ensures)
+    rw (p.1, p.2) (fails_inside c.in-Some.c c.in-Some.ensures.rest c.in-40.is refl refl c.in_err-part-in-40.ensures)
 
 pub unit-returns-in-46 : goal.unit-returns-in-46
 unit-returns-in-46 t c = one_byte _ _ dot c.in-Some.c (omega (arith, c.add.ensures.holds.counts, c.requires.1)) c.add.ensures.holds c.add.ensures.kept (omega (arith, c.in-Some.ensures.end)) (omega arith) refl c.in-Some.ensures.rest (ap (λ y. y ∷ []) c.in-46.is)
 
 pub unit-returns-then-eat : goal.unit-returns-then-eat
-unit-returns-then-eat t c = closes c.in-Some.c c.in-Some.ensures.rest c.in-40.is refl refl c.in_ok-part.ensures c.if-eat.ensures
+unit-returns-then-eat t c = closes c.in-Some.c c.in-Some.ensures.rest c.in-40.is refl refl c.in_ok-part-in-40.ensures c.if-eat.ensures
 
 pub unit-returns-else-eat : goal.unit-returns-else-eat
-unit-returns-else-eat t c = unclosed c.in-Some.c c.in-Some.ensures.rest c.in-40.is refl refl c.in_ok-part.ensures c.if-eat.ensures
+unit-returns-else-eat t c = unclosed c.in-Some.c c.in-Some.ensures.rest c.in-40.is refl refl c.in_ok-part-in-40.ensures c.if-eat.ensures
 
 pub unit-returns-in-a-to-z : goal.unit-returns-in-a-to-z
 unit-returns-in-a-to-z t c = one_byte _ _ (letter c.in-Some.c (omega arith) (omega arith)) c.in-Some.c (omega (arith, c.add-in-a-to-z.ensures.holds.counts, c.requires.1)) c.add-in-a-to-z.ensures.holds c.add-in-a-to-z.ensures.kept (omega (arith, c.in-Some.ensures.end)) (omega arith) refl c.in-Some.ensures.rest refl
