@@ -6,7 +6,7 @@ abbrev pub invariant-loop : goal.invariant-loop
 invariant-loop g l =
     let G = g.G.Graph.graph l.graph in
     (length l.z ≡ G.nodes + G.nodes)
-    × Walked G.has G.labels l.auto (take G.nodes l.initial.z) (take G.nodes l.z) (drop G.nodes l.z)
+    × Walked G.has G.labels l.auto' (take G.nodes l.initial.z) (take G.nodes l.z) (drop G.nodes l.z)
 
 -- the words seen have room for so much, and so much waits
 abbrev pub decreases-loop : goal.decreases-loop
