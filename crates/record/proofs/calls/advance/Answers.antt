@@ -15,20 +15,15 @@ bounds-tuple-i c = let q = c.args.query.now in omega (arith, head_few q.parsed q
 
 pub invariant_of-query : goal.invariant_of-query
 invariant_of-query c =
-    let q = c.args.query.now in (
-      q.held,
-      (
-        q.sized,
-        (
-          (λ t i e.
-              let same : c.in-Some.tuple ≡ t = cc e.0 in
-              let hl = head_long q in
-              let il = e.1 in
-              subst (λ (z : List ℕ). get_or z i 0 < q.nodes) same (c.in-Some.ensures.fits.within i (omega arith))),
-          tt,
-        ),
-      ),
-    )
+    let q = c.args.query.now in record {
+      held = q.held;
+      sized = q.sized;
+      inside = λ t i e.
+          let same : c.in-Some.tuple ≡ t = cc e.0 in
+          let hl = head_long q in
+          let il = e.1 in
+          subst (λ (z : List ℕ). get_or z i 0 < q.nodes) same (c.in-Some.ensures.fits.within i (omega arith));
+    }
 
 pub returns-in-None : goal.returns-in-None
 returns-in-None c =

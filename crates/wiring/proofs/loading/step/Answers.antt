@@ -12,7 +12,7 @@ returns-in-Err g c =
     let h = c.in-Err.ensures in
     let rs = vec_items c.args.refusals.now in
     let f = c.in-Err.fault in
-    let more = pushed (refusal f c.offset-at.result ∷ []) refl c.in_ok-push.was c.push.ensures.items in
+    let more = pushed (refusal f c.offset-at.result ∷ []) refl c.in_ok-push-in-Err.was c.push.ensures.items in
     record {
       reads = λ n k come. step_stopped s.bytes.now s.at t.at s.phase t.phase c.requires n k
           (g.G.Graph.graph c.args.graph.now) rs come (vec_items c.push.new.self) f h.reads
@@ -22,8 +22,8 @@ returns-in-Err g c =
       moves = λ e. absurd (false≢true e);
     }
 
-pub returns-in_ok-obey : goal.returns-in_ok-obey
-returns-in_ok-obey g c =
+pub returns-in_ok-obey-in-Some : goal.returns-in_ok-obey-in-Some
+returns-in_ok-obey-in-Some g c =
     let s = c.args.reader.now in
     let t = c.next.new.self in
     let h = c.in-Ok.ensures in
@@ -37,7 +37,7 @@ returns-in_ok-obey g c =
       reads = λ l k come. step_obeyed s.bytes.now s.at t.at s.phase t.phase c.requires l k
           (m c.args.graph.now) rs come (m c.obey.new.graph) rs' r n is h.reads
           (subst (λ (o : ℕ). Obeys (m c.args.graph.now) r o rs (m c.obey.new.graph) rs') c.offset-at.ensures
-          c.in_ok-obey.ensures);
+          c.in_ok-obey-in-Some.ensures);
       bytes = h.bytes;
       phase = step_loading s.bytes.now s.at t.at s.phase t.phase c.requires r n is h.reads;
       moves = λ _. step_moves s.bytes.now s.at t.at s.phase t.phase c.requires r n is h.reads;

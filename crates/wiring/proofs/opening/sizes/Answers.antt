@@ -25,18 +25,18 @@ returns-in_default c =
       bytes = h.bytes;
     }
 
-pub returns-in_err-site_sizes : goal.returns-in_err-site_sizes
-returns-in_err-site_sizes c =
+pub returns-in_err-site_sizes-in-Sizes : goal.returns-in_err-site_sizes-in-Sizes
+returns-in_err-site_sizes-in-Sizes c =
     let s = c.args.reader.now in
     let t = c.next.new.self in
     let h = c.in_ok-record.ensures in
-    let a = c.from_residual-in_err-site_sizes in
+    let a = c.from_residual-in_err-site_sizes-in-Sizes in
     let e = err_from_is_err_and a.result a.ensures.1 in
     record {
       opens = begin_unsized 200 s.bytes.now s.at s.phase t.at t.phase c.requires.start c.requires.phase
           c.in-Some.«record» c.in_ok-record.field-0 c.in-Some.is h.reads
           c.in-Sizes.nodes c.in-Sizes.labels c.in-Sizes.is
-          c.in_err-site_sizes.field-0.0 e.0 a.result e.1 e.2 c.in_err-site_sizes.ensures;
+          c.in_err-site_sizes-in-Sizes.field-0.0 e.0 a.result e.1 e.2 c.in_err-site_sizes-in-Sizes.ensures;
       bytes = h.bytes;
     }
 
@@ -49,6 +49,6 @@ returns c =
       opens = begin_made 200 s.bytes.now s.at s.phase t.at t.phase c.requires.start c.requires.phase
           c.in-Some.«record» c.in_ok-record.field-0 c.in-Some.is h.reads
           c.in-Sizes.nodes c.in-Sizes.labels c.in-Sizes.is
-          c.in_ok-site_sizes.field-0 c.in_ok-site_sizes.ensures;
+          c.in_ok-site_sizes-in-Sizes.field-0 c.in_ok-site_sizes-in-Sizes.ensures;
       bytes = h.bytes;
     }
