@@ -24,8 +24,10 @@ fn answer(text: &[u8]) -> usize {
 fn new_record(rt: HostRuntime) {
     let (query, Blank(_)) = Query::new();
     assert_eq!(rt; query.parsed.query.count, 1);
-    assert_eq!(rt; query.parsed.query.head.names[0], b'A');
-    assert_eq!(rt; query.parsed.query.atoms[0].second, b'B');
+    let first = query.parsed.query.head.names[0];
+    assert_eq!(rt; first, b'A');
+    let second = query.parsed.query.atoms[0].second;
+    assert_eq!(rt; second, b'B');
 }
 
 #[test]

@@ -8,8 +8,11 @@ const SIZES: [u8; 8] = [4, 0, 1, 0, 5, 0, 3, 0];
 fn prints(rt: &HostRuntime, bytes: &[u8], expected: &str) -> Result<(), Fail> {
     let survey = survey_file(rt.alloc(), bytes)?;
     let text = report_text(rt.alloc(), &survey)?;
-    assert!(text.as_str() == expected);
-    Ok(())
+    if text.as_str() == expected {
+        Ok(())
+    } else {
+        Err(Fail::new("another text is printed"))
+    }
 }
 
 // Behind a sizes record.
