@@ -8,10 +8,10 @@ use Rattle.automata.specs.declared.builder.Part.{Part}
 use Rattle.automata.specs.declared.symbols.Symbol.{Symbol}
 use Rattle.automata.specs.declared.symbols.Symbol.TheVariants.{Any}
 use Rattle.automata.specs.Parts.{meant, followed, beside, repeated, Built, Holds, Kept}
-use Rattle.automata.specs.Positions.{size, In, Null, First, Last, Follow, Reads}
+use Rattle.automata.specs.Positions.{size, In, Follow, Reads}
 use Rattle.automata.specs.Sets.{Has, Linked}
 use Rattle.automata.proofs.Links.{has_or, has_zero}
-use Rattle.automata.proofs.Positions.{first_in, last_in, follow_in, reads_in}
+use Rattle.automata.proofs.Positions.{last_in, follow_in, reads_in}
 
 -- A union that is taken only where a test says so.
 pick : {F G N : Type 0} (n : Bool) (x y p : ℕ) → (n ≡ true) ↔ N → Has x p ↔ F → Has y p ↔ G → Has (cond n (bit_or x y) x) p ↔ (F ⊎ (N × G))

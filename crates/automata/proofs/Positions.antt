@@ -1,7 +1,7 @@
 -- The automaton of an expression's positions, and the words of the expression.
-use Rattle.std.proofs.Common.{◌≡◌, ℕ, zero, suc, ◌+◌, ◌<◌, ◌≤◌, ◌⊎◌, ◌↔◌, List, [], ◌∷◌, ◌++◌, sym as back, refl, ap, ◌∙◌, subst, inl, inr, arith}
-use Rattle.meaning.specs.Words.{Regex, one, cat, alt, star, plus, opt, Matches, Star, none, more, Lang}
-use Rattle.automata.specs.Positions.{size, In, Null, First, Last, Follow, Reads, Run, Accept}
+use Rattle.std.proofs.Common.{◌≡◌, ℕ, ◌+◌, ◌⊎◌, ◌↔◌, List, [], ◌∷◌, ◌++◌, refl, ap, inl, inr, arith}
+use Rattle.meaning.specs.Words.{Regex, one, cat, alt, star, plus, opt, Star, none, more, Lang}
+use Rattle.automata.specs.Positions.{size, In, First, Last, Follow, Reads, Run, Accept}
 
 -- the positions that a relation speaks of are positions of the expression
 pub first_in : (b : ℕ) (r : Regex) (p : ℕ) → First b r p → In b r p

@@ -1,8 +1,7 @@
 -- The automaton with a start state before the positions.
-use Rattle.std.proofs.Common.{◌≡◌, ℕ, ◌+◌, ◌<◌, ◌≤◌, Bool, true, false, cond, eqb, ◌≢◌, ◌⊎◌, ◌↔◌, List, [], ◌∷◌, length, get_or, set, sym, refl, ap, ◌∙◌, subst, inl, inr, arith, get_or-set_other, get_or-set_same}
+use Rattle.std.proofs.Common.{◌≡◌, ℕ, ◌<◌, ◌≤◌, Bool, true, false, cond, ◌≢◌, ◌⊎◌, ◌↔◌, List, [], ◌∷◌, length, get_or, set, sym, refl, ap, ◌∙◌, subst, inl, inr, arith, get_or-set_other, get_or-set_same}
 use lib.Bits.{bit_or}
 use Rattle.std.proofs.lemmas.Bool.{false≢true}
-use Rattle.bits.specs.Bits.{bit}
 use Rattle.bits.proofs.Laws.{bit-pow}
 use Rattle.meaning.specs.Words.{Regex, Lang, Matches}
 use Rattle.automata.specs.declared.builder.Builder.{Builder}

@@ -1,5 +1,5 @@
 -- Raw tables one after another, and what the passes leave of them.
-use Rattle.std.proofs.Common.{◌≡◌, ℕ, ◌+◌, ◌*◌, ◌/◌, ◌%◌, ◌<◌, ◌≤◌, Bool, true, false, ◌↔◌, List, length, get_or, sym, refl, ap, ◌∙◌, subst, inl, inr, arith}
+use Rattle.std.proofs.Common.{◌≡◌, ℕ, ◌+◌, ◌*◌, ◌/◌, ◌%◌, ◌<◌, ◌≤◌, true, false, ◌↔◌, List, length, get_or, sym, refl, ap, ◌∙◌, subst, inl, inr, arith}
 use Rattle.std.proofs.lemmas.Nat.{div_below}
 use Rattle.std.proofs.lemmas.List.{get_or_default}
 use Rattle.std.proofs.lemmas.Bool.{cases_eq, cases_lt, both_ways}
@@ -8,13 +8,12 @@ use Rattle.bits.specs.Rows.{row_bit, width}
 use Rattle.meaning.specs.Answers.{Query, Pair, Satisfying, Kept}
 use Rattle.meaning.specs.Assignments.{Relations, Satisfies, Uses}
 use Rattle.meaning.specs.Graphs.{Graph}
-use Rattle.meaning.specs.Paths.{Path, Joins}
+use Rattle.meaning.specs.Paths.{Joins}
 use Rattle.meaning.specs.Words.{Regex}
 use Rattle.automata.specs.Machines.{Recognizes}
 use Rattle.automata.specs.Positions.{size}
 use Rattle.query.specs.declared.drafts.Atom.{Atom}
 use Rattle.walk.specs.Tables.{Tells, Written}
-use Rattle.walk.proofs.Layouts.{path_below}
 use Rattle.joins.specs.Layouts.{tables, Ready}
 use Rattle.joins.specs.Passes.{Passed}
 use Rattle.joins.proofs.Placing.{parts, whole}

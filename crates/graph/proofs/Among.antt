@@ -5,7 +5,7 @@ use Rattle.std.proofs.lemmas.List.{get_or-set_same, get_or-set_other}
 use Rattle.std.proofs.lemmas.Bool.Decides.{same_from_decides, Decides-like, Decides-not, Decides-and, Decides-below_or}
 use Rattle.graph.specs.declared.edges.Edge.{Edge}
 use Rattle.graph.specs.Edges.{edge, blank, is, among, holds}
-use Rattle.graph.proofs.Same.{decides_is, is_self, is_other}
+use Rattle.graph.proofs.Same.{decides_is, is_other}
 use Rattle.graph.proofs.OneEdge.{Changed}
 
 abbrev pub Stands : List Edge → ℕ → Edge → Type 0

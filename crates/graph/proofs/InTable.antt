@@ -8,10 +8,10 @@ use Rattle.bits.proofs.Laws.{bit_zero}
 use Rattle.meaning.specs.Graphs.{Edges, Legal, count}
 use Rattle.meaning.proofs.Counts.{count_bound}
 use Rattle.graph.specs.declared.edges.Edge.{Edge}
-use Rattle.graph.specs.Edges.{edge, holds, is}
+use Rattle.graph.specs.Edges.{holds, is}
 use Rattle.graph.specs.Rows.{in_table}
 use Rattle.graph.proofs.OneEdge.{Changed, LegalEdge, count_put}
-use Rattle.graph.proofs.Same.{decides_is, is_other}
+use Rattle.graph.proofs.Same.{is_other}
 
 abbrev legal_test : ℕ → ℕ → ℕ → ℕ → ℕ → Bool
 legal_test n q u a v = ltb u n && (ltb a q && ltb v n)

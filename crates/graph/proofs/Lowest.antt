@@ -1,5 +1,5 @@
 -- The lowest end of an edge, where one edge more is in the set.
-use Rattle.std.proofs.Common.{◌≡◌, ℕ, ◌<◌, ◌≤◌, min, Bool, true, false, cond, ◌||◌, Some, None, Option, sym, refl, ap, ◌∙◌, subst, ⊎_elim, arith}
+use Rattle.std.proofs.Common.{◌≡◌, ℕ, ◌<◌, ◌≤◌, min, Bool, true, false, cond, ◌||◌, Some, None, Option, sym, refl, ap, subst, ⊎_elim, arith}
 use Rattle.std.proofs.lemmas.Bool.{cases_lt, cases_Bool, le-leb, leb-true, eqb-true, eq-eqb, and_parts, and_from, both_ways}
 use Rattle.meaning.specs.Graphs.{Edges}
 use Rattle.graph.specs.declared.edges.Edge.{Edge}

@@ -1,5 +1,5 @@
 -- A set of edges before and after one edge comes or goes; every kind of graph uses these.
-use Rattle.std.proofs.Common.{◌≡◌, ℕ, ◌+◌, ◌<◌, ◌≤◌, Bool, true, false, cond, not, ◌&&◌, ◌||◌, leb, [], ◌∷◌, Some, None, sym, refl, ap, ◌∙◌, subst, ⊎_elim, arith}
+use Rattle.std.proofs.Common.{◌≡◌, ℕ, ◌+◌, ◌<◌, ◌≤◌, Bool, true, false, cond, not, Some, None, sym, ap, ◌∙◌, subst, ⊎_elim}
 use Rattle.std.proofs.lemmas.Bool.{cases_Bool, lt-leb, le-leb, and_right}
 use Rattle.meaning.specs.Graphs.{Edges, Legal, Graph, count, size}
 use Rattle.meaning.specs.Refusals.{first}

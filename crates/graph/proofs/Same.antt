@@ -1,5 +1,5 @@
 -- The test whether an edge is the one from u under a to v.
-use Rattle.std.proofs.Common.{◌≡◌, ℕ, Bool, true, false, Decides, sym, refl, ap, ⊎_elim}
+use Rattle.std.proofs.Common.{◌≡◌, ℕ, true, false, Decides, refl, ap, ⊎_elim}
 use Rattle.std.proofs.lemmas.Bool.{cases_Bool}
 use Rattle.std.proofs.lemmas.Bool.Decides.{Decides-like, Decides-and, Decides-eqb}
 use Rattle.graph.specs.declared.edges.Edge.{Edge}

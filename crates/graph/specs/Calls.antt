@@ -7,7 +7,7 @@
 --     Puts g e r h       a put of e to g that answers r leaves h
 --     Strikes g e r h    a strike of e from g that answers r leaves h
 --     BadSizes m n q f   the first of the sizes n and q that is out of range, where m nodes are allowed
-use Rattle.std.specs.Prelude.{◌≡◌, ℕ, ◌<◌, ◌≤◌, Bool, true, false, cond, not, ◌&&◌, ◌||◌, List, [], ◌∷◌, ◌++◌, Some, None, Ok, Err, Result, nat_le}
+use Rattle.std.specs.Prelude.{◌≡◌, ℕ, ◌≤◌, Bool, true, false, cond, not, ◌&&◌, ◌||◌, List, [], ◌∷◌, ◌++◌, Some, None, Ok, Err, Result, nat_le}
 use Rattle.meaning.specs.Graphs.{Graph, Legal, size}
 use Rattle.meaning.specs.Refusals.{first}
 use Rattle.graph.specs.declared.edges.Edge.{Edge}

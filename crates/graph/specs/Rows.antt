@@ -1,6 +1,6 @@
 -- The edges of a small table, a word for each label and node: bit v of word a * 64 + u is the edge from u under a to v.
 --     in_table n q ws   the legal edges whose bit is set
-use Rattle.std.specs.Prelude.{ℕ, ◌+◌, ◌*◌, Bool, ◌&&◌, List, nat_lt, slice_index}
+use Rattle.std.specs.Prelude.{ℕ, ◌+◌, ◌*◌, ◌&&◌, List, nat_lt, slice_index}
 use Rattle.bits.specs.Bits.{bit}
 use Rattle.meaning.specs.Graphs.{Edges}
 

@@ -1,8 +1,8 @@
 -- A tuple that fits exact tables is part of a satisfying assignment: two assignments that agree at a variable are joined along a cut of the tree.
 use Rattle.std.proofs.Common.{◌≡◌, ℕ, zero, suc, pred, ◌<◌, ◌≤◌, Bool, true, false, cond, not, eqb, ◌⊎◌, sym, refl, ap, ◌∙◌, subst, inl, inr, arith}
-use Rattle.std.proofs.lemmas.Bool.{eq-eqb, ne_eqb, cases_eq, cond-true, cond-false, cases_Bool, both_ways}
-use Rattle.meaning.specs.Assignments.{Relations, Satisfies, Uses}
-use Rattle.meaning.specs.Shapes.{Atoms, Has, Joins}
+use Rattle.std.proofs.lemmas.Bool.{eq-eqb, ne_eqb, cases_eq, cond-true, cond-false, cases_Bool}
+use Rattle.meaning.specs.Assignments.{Relations, Satisfies}
+use Rattle.meaning.specs.Shapes.{Has, Joins}
 use Rattle.joins.specs.Plans.{Plan, Hangs, at_variable, Occurs, Exact}
 use Rattle.joins.proofs.Passing.{at_assigned}
 

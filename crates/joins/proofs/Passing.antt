@@ -1,8 +1,8 @@
 -- The two passes of semijoins over a tree of atoms leave exactly the pairs that satisfying assignments use.
-use Rattle.std.proofs.Common.{◌≡◌, ℕ, zero, suc, pred, ◌<◌, ◌≤◌, Bool, true, false, cond, not, ◌&&◌, ◌||◌, eqb, ◌⊎◌, sym, refl, ap, ◌∙◌, subst, inl, inr, arith}
-use Rattle.std.proofs.lemmas.Bool.{eq-eqb, ne_eqb, eqb-true, cases_eq, cases_lt, cond-true, cond-false}
-use Rattle.meaning.specs.Assignments.{Relations, Satisfies, Uses}
-use Rattle.meaning.specs.Shapes.{Atoms, Has, Joins}
+use Rattle.std.proofs.Common.{◌≡◌, ℕ, zero, suc, pred, ◌<◌, ◌≤◌, true, cond, eqb, sym, refl, ap, ◌∙◌, subst, inl, inr, arith}
+use Rattle.std.proofs.lemmas.Bool.{eq-eqb, ne_eqb, cases_eq, cond-true, cond-false}
+use Rattle.meaning.specs.Assignments.{Relations, Satisfies}
+use Rattle.meaning.specs.Shapes.{Has}
 use Rattle.joins.specs.Plans.{Plan, Hangs, at_variable, Occurs, Semijoin, Exact, Upper, Lower}
 
 at_first : (q : Plan) (i x u v : ℕ) → q.atoms.first i ≡ x → at_variable q.atoms i x u v ≡ u

@@ -1,12 +1,12 @@
 -- A step on the words of a workspace is a semijoin of its tables.
-use Rattle.std.proofs.Common.{◌≡◌, ℕ, suc, ◌+◌, ◌*◌, ◌/◌, ◌%◌, ◌<◌, ◌≤◌, Bool, true, false, cond, ◌&&◌, eqb, ltb, ◌⊎◌, List, get_or, sym, refl, ap, ◌∙◌, subst, inl, inr, arith}
+use Rattle.std.proofs.Common.{◌≡◌, ℕ, ◌+◌, ◌*◌, ◌/◌, ◌%◌, ◌<◌, ◌≤◌, true, ◌&&◌, eqb, ltb, List, sym, ap, ◌∙◌, subst, inl, inr, arith}
 use Rattle.std.proofs.lemmas.Nat.{div_below}
 use Rattle.std.proofs.lemmas.Bool.{cases_eq, cases_lt, cases_Bool, and_parts, and_from, ltb-true, lt-ltb, both_ways}
 use Rattle.bits.specs.Bits.{bit}
 use Rattle.bits.specs.Rows.{row_bit}
 use Rattle.meaning.specs.Shapes.{Atoms}
-use Rattle.joins.specs.Sides.{Found, Joined}
-use Rattle.joins.specs.Plans.{Semijoin, Occurs, at_variable}
+use Rattle.joins.specs.Sides.{Joined}
+use Rattle.joins.specs.Plans.{Semijoin, at_variable}
 use Rattle.joins.specs.Layouts.{tables, Ready, Reduced}
 use Rattle.joins.proofs.Siding.{row_end}
 

@@ -1,11 +1,11 @@
 -- Semijoins by rank, and the two passes.
-use Rattle.std.proofs.Common.{◌≡◌, ℕ, suc, ◌+◌, ◌-◌, ◌*◌, ◌<◌, ◌≤◌, Bool, true, false, cond, ◌&&◌, eqb, ltb, ◌⊎◌, List, get_or, sym, refl, ap, ◌∙◌, subst, inl, inr, arith}
+use Rattle.std.proofs.Common.{◌≡◌, ℕ, suc, ◌+◌, ◌-◌, ◌<◌, ◌≤◌, true, ltb, List, sym, refl, ap, ◌∙◌, subst, arith}
 use Rattle.std.proofs.lemmas.Bool.{and_parts, and_from, lt-ltb, ltb-true}
 use Rattle.meaning.specs.Assignments.{Relations, Satisfies}
 use Rattle.meaning.specs.Shapes.{Atoms}
 use Rattle.order.specs.Orders.{Ordered}
 use Rattle.order.specs.Ranks.{Ranks}
-use Rattle.joins.specs.Plans.{Plan, Hangs, Semijoin, Exact, Upper, Lower, Occurs}
+use Rattle.joins.specs.Plans.{Hangs, Semijoin, Exact, Upper, Lower}
 use Rattle.joins.specs.Layouts.{tables, Ready, Reduced}
 use Rattle.joins.specs.Passes.{plan, by, Climbed, Descended, Passed}
 use Rattle.joins.proofs.Passing.{upper_more, lower_more, lower_all}

@@ -1,11 +1,11 @@
 -- Notes and keeps on a side, row by row, and a whole step.
-use Rattle.std.proofs.Common.{◌≡◌, ℕ, suc, ◌+◌, ◌-◌, ◌*◌, ◌/◌, ◌%◌, ◌<◌, ◌≤◌, Bool, true, false, cond, ◌&&◌, ◌||◌, eqb, ◌⊎◌, List, length, get_or, sym, refl, ap, ◌∙◌, subst, inl, inr, add-mul, one-mul, arith}
+use Rattle.std.proofs.Common.{◌≡◌, ℕ, ◌+◌, ◌*◌, ◌/◌, ◌%◌, ◌<◌, ◌≤◌, Bool, true, false, cond, ◌&&◌, ◌||◌, eqb, ◌⊎◌, List, get_or, sym, refl, ap, ◌∙◌, subst, inl, inr, add-mul, one-mul, arith}
 use Rattle.std.proofs.lemmas.Nat.{div_below, mul-le}
-use Rattle.std.proofs.lemmas.Bool.{cases_eq, cases_Bool, and_parts, and_from, and_left, and_right, or_cases, or_left, or_right, both_ways, eq-eqb, eqb-true, ne_eqb}
+use Rattle.std.proofs.lemmas.Bool.{cases_eq, and_parts, and_from, and_right, or_cases, or_left, or_right, both_ways, eq-eqb, eqb-true}
 use Rattle.bits.specs.Bits.{bit}
 use Rattle.bits.specs.Rows.{row_bit, RowSet, Cleared, Narrowed, Widened, SomeBit}
 use Rattle.bits.proofs.Laws.{bit_zero}
-use Rattle.joins.specs.Sides.{Found, RowNoted, NotedToo, Noted, RowKept, KeptBy, Joined}
+use Rattle.joins.specs.Sides.{RowNoted, NotedToo, Noted, RowKept, KeptBy, Joined}
 
 -- a row stands whole before the next
 pub row_end : (x u w : ℕ) → x < u → x * w + w ≤ u * w

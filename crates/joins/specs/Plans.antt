@@ -7,7 +7,7 @@
 --     Exact q m r t       t keeps exactly the pairs that assignments satisfying r use
 --     Upper q r t k       what the pass to the first atom keeps true: the ranks k and above are done
 --     Lower q r t k       what the pass from the first atom keeps true: the ranks below k are done
-use Rattle.std.specs.Prelude.{◌≡◌, ℕ, ◌<◌, ◌≤◌, Bool, true, cond, ◌↔◌, ◌==◌, ◌≢◌}
+use Rattle.std.specs.Prelude.{◌≡◌, ℕ, ◌<◌, ◌≤◌, true, cond, ◌↔◌, ◌==◌, ◌≢◌}
 use Rattle.meaning.specs.Assignments.{Relations, Satisfies, Uses}
 use Rattle.meaning.specs.Shapes.{Atoms, Has, Joins}
 

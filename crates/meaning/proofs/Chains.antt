@@ -1,7 +1,7 @@
 -- Laws of chains; an atom makes a cycle with those before it just if they connect its variables.
-use Rattle.std.proofs.Common.{◌≡◌, ℕ, zero, suc, ◌<◌, ◌≤◌, ◌⊎◌, List, [], ◌∷◌, length, sym, refl, ap, ◌∙◌, subst, inl, inr, arith}
+use Rattle.std.proofs.Common.{◌≡◌, ℕ, suc, ◌<◌, ◌⊎◌, List, [], ◌∷◌, sym, refl, ◌∙◌, subst, inl, inr, arith}
 use Rattle.std.proofs.lemmas.Bool.{cases_eq}
-use Rattle.meaning.specs.Shapes.{Atoms, Joins, Has, Step, Chain, Connected, Among, Different, atoms_of, variables_of, Cycle, Before}
+use Rattle.meaning.specs.Shapes.{Atoms, Joins, Step, Chain, Connected, Among, Different, atoms_of, variables_of, Cycle, Before}
 
 -- a one_step chain, from equations
 joins_turn : (q : Atoms) (i x y : ℕ) → Joins q i x y → Joins q i y x

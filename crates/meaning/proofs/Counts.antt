@@ -1,5 +1,5 @@
 -- The number of edges of a set, after one more and after one less.
-use Rattle.std.proofs.Common.{◌≡◌, ℕ, ◌+◌, ◌*◌, ◌<◌, ◌≤◌, Bool, true, false, cond, sym, refl, ap, ◌∙◌, subst, ⊎_elim, mul_assoc, mul_comm, mul-one, arith}
+use Rattle.std.proofs.Common.{◌≡◌, ℕ, ◌+◌, ◌*◌, ◌≤◌, Bool, true, false, cond, sym, ap, ◌∙◌, subst, mul_assoc, mul_comm, mul-one, arith}
 use Rattle.meaning.specs.Graphs.{Edges, Legal, count, sum_below}
 use Rattle.meaning.proofs.Sums.{sum_cong, sum_none, sum_more, sum_le}
 

@@ -1,7 +1,6 @@
 -- Where the fitting tuples are the answers, the outcomes of next list the answers whole.
-use Rattle.std.proofs.Common.{◌≡◌, ℕ, zero, suc, ◌<◌, ◌≤◌, ◌⊎◌, List, [], ◌∷◌, ◌++◌, sym, refl, ap, ◌∙◌, subst, inl, inr, arith}
-use Rattle.meaning.specs.Tuples.{node, Lower}
-use Rattle.meaning.specs.Listings.{Outcome, gave, ended, given, Same, AboveNewest, Gives, Nexts, Among, Higher, Rising, All, Listed, NextRight, Whole}
+use Rattle.std.proofs.Common.{◌≡◌, ℕ, List, [], ◌∷◌, ◌++◌, refl, subst, inl, inr, arith}
+use Rattle.meaning.specs.Listings.{Outcome, gave, ended, given, AboveNewest, Gives, Nexts, Among, Higher, Rising, Listed, NextRight, Whole}
 use Rattle.meaning.proofs.TupleOrder.{lower_trans, lower_not_same, compare}
 
 -- above the newest of a rising list is above all of it

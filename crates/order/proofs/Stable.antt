@@ -1,5 +1,5 @@
 -- An order that cannot fail to be one is one: each of its facts is a comparison of numbers.
-use Rattle.std.proofs.Common.{◌≡◌, ℕ, ◌<◌, ◌≤◌, ◌⊎◌, inl, inr, ⊎_elim, arith}
+use Rattle.std.proofs.Common.{◌≡◌, ℕ, ◌<◌, ◌≤◌, inl, inr, ⊎_elim, arith}
 use Rattle.std.proofs.lemmas.Bool.{cases_eq, cases_lt}
 use Rattle.meaning.specs.Shapes.{Atoms, Joins, Has}
 use Rattle.order.specs.Ranks.{Ranks}

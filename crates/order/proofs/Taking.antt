@@ -1,11 +1,10 @@
 -- One atom after another is taken: what holds when k are.
-use Rattle.std.proofs.Common.{◌≡◌, ℕ, zero, suc, ◌+◌, ◌-◌, ◌<◌, ◌≤◌, Bool, true, false, cond, ltb, ◌⊎◌, List, [], ◌∷◌, length, get_or, set, replicate, sym, refl, ap, ◌∙◌, subst, inl, inr, arith, get_or-set_other, get_or-set_same}
+use Rattle.std.proofs.Common.{◌≡◌, ℕ, suc, ◌+◌, ◌-◌, ◌<◌, ◌≤◌, ltb, ◌⊎◌, List, [], ◌∷◌, length, get_or, set, replicate, sym, refl, ap, ◌∙◌, subst, inl, inr, arith, get_or-set_other, get_or-set_same}
 use lib.ListN.{get_or-replicate}
 use Rattle.std.proofs.lemmas.Bool.{cases_eq, cases_lt, lt-ltb, le-ltb}
 use Rattle.meaning.specs.Shapes.{Atoms, Joins, Has, Step, Chain, Connected, Cycle, Before}
 use Rattle.meaning.proofs.Chains.{connected_same, connected_step, connected_trans, connected_turn, connected_more, cycle_more, cycle_closes}
 use Rattle.order.specs.Ranks.{Ranks}
-use Rattle.order.specs.Trees.{Tree}
 use Rattle.order.specs.Orders.{Ordered, Chosen, Late, Touches}
 use Rattle.order.proofs.Counts.{count, count_none, count_all, count_room, count_more}
 

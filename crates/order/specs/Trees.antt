@@ -1,5 +1,5 @@
 -- Atoms as a tree: each but the first hangs by one variable on an earlier one and brings a new variable.
-use Rattle.std.specs.Prelude.{◌≡◌, ℕ, ◌<◌, ◌≢◌}
+use Rattle.std.specs.Prelude.{ℕ, ◌<◌, ◌≢◌}
 use Rattle.meaning.specs.Shapes.{Atoms, Joins, Has}
 use Rattle.order.specs.Ranks.{Ranks}
 

@@ -1,5 +1,5 @@
 -- The checks of the shape, made on what the code keeps, are those of the text.
-use Rattle.std.proofs.Common.{◌≡◌, ℕ, ◌+◌, ◌<◌, ◌≤◌, List, length, get_or, take, Ok, Err, Result, sym, refl, ap, ◌∙◌, subst, arith, length-take, get_or-take}
+use Rattle.std.proofs.Common.{◌≡◌, ℕ, ◌<◌, ◌≤◌, List, length, get_or, take, Ok, Err, Result, sym, ap, ◌∙◌, subst, arith, length-take}
 use Rattle.shapes.specs.declared.checks.Ends.{Ends}
 use Rattle.shapes.specs.declared.verdicts.Fault.{Fault}
 use Rattle.shapes.specs.Checks.{of, Absent}
@@ -8,12 +8,11 @@ use Rattle.order.specs.declared.Order.{Order}
 use Rattle.order.specs.Ranks.{ranks}
 use Rattle.order.specs.Orders.{Ordered, Chosen}
 use Rattle.query.specs.declared.drafts.Query.{Query}
-use Rattle.query.specs.Queries.{HeadTree, AtomsTree, names}
+use Rattle.query.specs.Queries.{names}
 use Rattle.query.specs.Limits.{number}
-use Rattle.query.specs.Texts.{HoldsQuery, HoldsText}
-use Rattle.parse.specs.declared.Parsed.{Parsed}
-use Rattle.parse.specs.Shaping.{ends, place, kept_place, Numbered, no_atom, pair}
-use Rattle.parse.specs.Parsing.{Reads, Arranged, Accepted, IllShaped}
+use Rattle.query.specs.Texts.{HoldsText}
+use Rattle.parse.specs.Shaping.{ends, kept_place, Numbered, no_atom, pair}
+use Rattle.parse.specs.Parsing.{Reads, Accepted, IllShaped}
 use Rattle.parse.proofs.Shaped.{ends_long, ends_are, number_some, names_are, names_fit, names_some, first_name, places_are, numbered}
 
 module _ {q : Query} {xs : List ℕ} (e : List Ends) (t : HoldsText q xs) (long : length e ≡ 8) (each : (d : Ends) (i : ℕ) → i < 8 → get_or e i d ≡ pair (get_or q.atoms i no_atom)) where

@@ -1,8 +1,7 @@
 -- What follows from a query that some text is parsed to, where only this is known: that it cannot be that none is.
-use Rattle.std.proofs.Common.{◌≡◌, ℕ, zero, suc, ◌+◌, ◌-◌, ◌<◌, ◌≤◌, List, [], ◌∷◌, ◌++◌, length, get_or, take, sym, refl, ap, ◌∙◌, subst, inl, inr, arith, length-append, length-take}
+use Rattle.std.proofs.Common.{◌≡◌, ℕ, zero, suc, ◌-◌, ◌<◌, ◌≤◌, List, [], ◌∷◌, length, get_or, take, sym, ◌∙◌, subst, inl, inr, arith, length-append}
 use Rattle.std.proofs.lemmas.List.{get_or_append_left, get_or_push}
 use Rattle.std.proofs.lemmas.Bool.{cases_lt}
-use Rattle.meaning.specs.Shapes.{Has}
 use Rattle.meaning.proofs.Pigeonhole.{pigeonhole}
 use Rattle.shapes.specs.declared.checks.Ends.{Ends}
 use Rattle.shapes.specs.Checks.{of, Absent}
@@ -10,7 +9,6 @@ use Rattle.shapes.specs.Verdicts.{Distinct}
 use Rattle.order.specs.Orders.{Ordered}
 use Rattle.order.specs.Ranks.{ranks}
 use Rattle.order.proofs.Stable.{stable_eq, stable_lt, stable_le, stable_ordered}
-use Rattle.query.specs.Limits.{number}
 use Rattle.query.specs.Queries.{HeadTree, one_name, more_names, names}
 use Rattle.parse.specs.declared.Parsed.{Parsed}
 use Rattle.parse.specs.Parsing.{Accepted}

@@ -1,5 +1,5 @@
 -- The automata that the code keeps are those of the text's expressions.
-use Rattle.std.proofs.Common.{◌≡◌, ℕ, zero, suc, ◌+◌, ◌<◌, ◌≤◌, List, [], ◌∷◌, ◌++◌, length, get_or, sym, refl, ap, ◌∙◌, subst, inl, inr, arith, length-append}
+use Rattle.std.proofs.Common.{◌≡◌, ℕ, zero, suc, ◌+◌, ◌<◌, ◌≤◌, List, [], ◌∷◌, length, get_or, sym, refl, ap, ◌∙◌, subst, inl, inr, arith, length-append}
 use Rattle.std.proofs.lemmas.List.{get_or_append_left, get_or_push}
 use Rattle.std.proofs.lemmas.Bool.{cases_lt}
 use Rattle.meaning.specs.Words.{Regex}
@@ -7,7 +7,7 @@ use Rattle.automata.specs.Machines.{Recognizes}
 use Rattle.automata.specs.Positions.{size}
 use Rattle.query.specs.declared.drafts.Atom.{Atom}
 use Rattle.query.specs.Queries.{AtomsTree, one_atom, more_atoms, inside_regex}
-use Rattle.query.specs.Limits.{Rightly, Right, inside_of, number}
+use Rattle.query.specs.Limits.{Rightly, inside_of, number}
 use Rattle.parse.specs.Meanings.{expressions}
 
 pub expressions_long : (s : AtomsTree) → length (expressions s) ≡ number s

@@ -1,7 +1,7 @@
 -- What a query text means.
 --     expressions s   the expressions of the atoms, in the order of the text
 --     meaning h s     the query of a head and atoms
-use Rattle.std.specs.Prelude.{ℕ, List, [], ◌∷◌, ◌++◌, slice_index_or}
+use Rattle.std.specs.Prelude.{List, [], ◌∷◌, ◌++◌, slice_index_or}
 use Rattle.meaning.specs.Answers.{Query}
 use Rattle.meaning.specs.Words.{Regex, one, any}
 use Rattle.query.specs.Limits.{inside_of, number}

@@ -7,7 +7,6 @@ use Rattle.shapes.specs.Verdicts.{Verdict}
 use Rattle.order.specs.Ranks.{ranks}
 use Rattle.order.specs.Orders.{Ordered, Chosen}
 use Rattle.order.specs.declared.Order.{Order}
-use Rattle.query.specs.declared.drafts.Query.{Query}
 use Rattle.query.specs.Queries.{HeadTree, AtomsTree, names, QueryTree, query_tree, query_text}
 use Rattle.query.specs.Limits.{Large, number}
 use Rattle.query.specs.Texts.{HoldsQuery, Refused}

@@ -1,9 +1,8 @@
 -- The machine over bytes reads the texts of the trees, and where a reader stops.
-use Rattle.std.proofs.Common.{◌≡◌, ℕ, zero, suc, ◌+◌, ◌<◌, ◌≤◌, Bool, true, false, cond, eqb, leb, ◌⊎◌, List, [], ◌∷◌, ◌++◌, length, sym, refl, ap, ◌∙◌, subst, inl, inr, append_assoc, append-nil, arith}
+use Rattle.std.proofs.Common.{◌≡◌, ℕ, suc, ◌≤◌, false, List, [], ◌∷◌, ◌++◌, sym, refl, ap, ◌∙◌, append_assoc, append-nil, arith}
 use Rattle.std.proofs.lemmas.Bool.Decides.{nat_tests}
-use Rattle.query.specs.Grammar as G
-use Rattle.std.proofs.lemmas.Bool.{le-leb, cond-true}
-use Rattle.query.specs.Grammar.{Layer, alternative, sequence, step, unit, Kind, atom, opening, closing, sign, slash, bar, other, kind, Tree, letter, dot, group, plain, star, plus, opt, one_step, joined, one_sequence, either, text, goes_on, Stops, State, expects, after, dead, move, run, Took, Halted}
+use Rattle.std.proofs.lemmas.Bool.{le-leb}
+use Rattle.query.specs.Grammar.{Layer, alternative, step, unit, atom, kind, Tree, letter, dot, group, plain, star, plus, opt, one_step, joined, one_sequence, either, text, goes_on, expects, after, dead, move, run, Took, Halted}
 
 pub kind_letter : (b : ℕ) → 97 ≤ b → b ≤ 122 → kind b ≡ atom
 kind_letter b h k = simp (le-leb 97 b h, le-leb b 122 k)

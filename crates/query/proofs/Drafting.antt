@@ -1,5 +1,5 @@
 -- Whole texts, atom by atom, and where they stop.
-use Rattle.std.proofs.Common.{◌≡◌, ℕ, zero, suc, ◌+◌, ◌-◌, ◌<◌, ◌≤◌, Bool, true, false, cond, eqb, leb, ◌⊎◌, List, [], ◌∷◌, ◌++◌, length, get_or, take, drop, IfSome, Some, None, Ok, Err, Option, Result, sym, refl, ap, ◌∙◌, subst, inl, inr, append_assoc, append-nil, arith, length-append, length-drop, MatchOption}
+use Rattle.std.proofs.Common.{◌≡◌, ℕ, zero, suc, ◌+◌, ◌<◌, ◌≤◌, true, false, ◌⊎◌, List, [], ◌∷◌, ◌++◌, length, get_or, take, drop, IfSome, Some, None, Ok, Err, Option, sym, refl, ap, ◌∙◌, subst, inl, inr, append_assoc, append-nil, arith, length-append, length-drop, MatchOption}
 use Rattle.std.proofs.lemmas.Bool.Decides.{nat_tests}
 use Rattle.std.proofs.lemmas.Bool.{cases_lt}
 use Rattle.std.proofs.lemmas.List.{drop_all}
@@ -9,14 +9,14 @@ use Rattle.query.specs.declared.drafts.Head.{Head}
 use Rattle.query.specs.declared.drafts.Draft.{Draft}
 use Rattle.automata.specs.Positions.{size}
 use Rattle.query.specs.Outcome.{rest, Eats}
-use Rattle.query.specs.Queries.{Capital, HeadTree, one_name, names, Inside, filled, inside_text, inside_regex, AtomTree, atom_tree, atom_text, AtomsTree, one_atom, more_atoms, atoms_text, QueryTree, query_tree, query_text, IsQuery, Begins, Longest}
-use Rattle.query.specs.Viable.{Stage, start, in_head, at-atom, done, dead, go, goes, Halts}
-use Rattle.query.specs.Limits.{Stored, Right, Rightly, Keeps, Rows, Over, Overs, Large, Lowest, number, first_of, second_of, inside_of, SixtyFourth}
+use Rattle.query.specs.Queries.{HeadTree, names, inside_text, inside_regex, AtomTree, atom_tree, atom_text, AtomsTree, one_atom, more_atoms, atoms_text, QueryTree, query_tree, query_text, IsQuery, Begins, Longest}
+use Rattle.query.specs.Viable.{start, at-atom, done, dead, go, goes, Halts}
+use Rattle.query.specs.Limits.{Stored, Right, Rightly, Keeps, Rows, Over, Overs, Large, Lowest, number, inside_of}
 use Rattle.query.specs.declared.drafts.Query.{Query}
-use Rattle.query.specs.Texts.{IsTooLarge, HoldsQuery, HoldsText}
-use Rattle.query.specs.Readings.{Went, Atomed, Headed, Claused, Adds, Drafted, Wholly}
+use Rattle.query.specs.Texts.{IsTooLarge, HoldsText}
+use Rattle.query.specs.Readings.{Atomed, Headed, Claused, Drafted, Wholly}
 use Rattle.query.proofs.Once.{one_query}
-use Rattle.query.proofs.Letters.{over_not, over_none}
+use Rattle.query.proofs.Letters.{over_not}
 use Rattle.query.proofs.Stages.{goes_append, runs_head, runs_atoms, runs_query, query_done, halts_under, dead_goes}
 
 -- An atom behind those of the draft.

@@ -1,5 +1,5 @@
 -- The steps of the readers: loops over joined texts, units, signs.
-use Rattle.std.proofs.Common.{◌≡◌, ℕ, zero, suc, ◌+◌, ◌<◌, ◌≤◌, Bool, true, false, cond, eqb, leb, List, [], ◌∷◌, ◌++◌, length, Ok, Err, Result, sym, refl, ap, ◌∙◌, subst, append_assoc, append-nil, arith}
+use Rattle.std.proofs.Common.{◌≡◌, ℕ, ◌+◌, ◌≤◌, true, false, List, [], ◌∷◌, ◌++◌, length, Ok, Err, sym, refl, ap, ◌∙◌, subst, append_assoc, arith}
 use Rattle.std.proofs.lemmas.Bool.Decides.{nat_tests}
 use Rattle.query.specs.declared.reader.Reader.{Reader}
 use Rattle.automata.specs.declared.builder.Part.{Part}
@@ -12,7 +12,7 @@ use Rattle.automata.specs.Sets.{Linked}
 use Rattle.query.specs.Trees.{regex}
 use Rattle.automata.specs.Parts.{Built, Holds, Kept, beside, repeated, followed}
 use Rattle.automata.proofs.Joining.{joins, repeats, repeats_once, options, eithers, kept_same, kept_then, kept_linked, built_kept}
-use Rattle.query.specs.Outcome.{rest, Ahead, Outcome, Eats, Grown, Made}
+use Rattle.query.specs.Outcome.{rest, Ahead, Outcome, Eats, Grown}
 use Rattle.query.specs.Grammar.{Layer, alternative, sequence, step, unit, Kind, atom, opening, closing, sign, slash, bar, other, kind, Tree, letter, dot, group, plain, one_step, joined, one_sequence, either, text, goes_on, Stops, State, expects, after, dead, move, run, Took, Halted}
 use Rattle.query.proofs.Bytes.{runs, halt_here, halt_group, halt_open, halt_plain, not_closing}
 

@@ -1,10 +1,10 @@
 -- The longest beginning of a text that begins some expression.
-use Rattle.std.proofs.Common.{◌≡◌, ℕ, zero, suc, ◌+◌, ◌-◌, ◌<◌, ◌≤◌, false, List, [], ◌∷◌, ◌++◌, length, take, drop, sym, refl, ap, ◌∙◌, subst, append_assoc, append-nil, arith, length-append, length-drop, take_at}
+use Rattle.std.proofs.Common.{◌≡◌, ℕ, suc, ◌+◌, ◌-◌, ◌<◌, ◌≤◌, false, List, [], ◌∷◌, ◌++◌, length, take, drop, sym, refl, ap, ◌∙◌, subst, append_assoc, append-nil, arith, length-append, length-drop, take_at}
 use Rattle.std.proofs.lemmas.List.{drop_all}
 use lib.Seq.{take-append-add}
 use Rattle.std.proofs.lemmas.Bool.Decides.{nat_tests}
-use Rattle.query.specs.Grammar.{Tree, alternative, text, kind, goes_on, Stops, expects, after, dead, move, run, Took, Halted}
-use Rattle.query.specs.Expressions.{Begins, Longest, NoExpression}
+use Rattle.query.specs.Grammar.{Tree, alternative, text, kind, goes_on, expects, after, dead, move, run, Took, Halted}
+use Rattle.query.specs.Expressions.{Begins, NoExpression}
 use Rattle.query.proofs.Bytes.{run_all, runs}
 
 run_append : (s : _) (xs ys : List ℕ) → run s (xs ++ ys) ≡ run (run s xs) ys

@@ -1,5 +1,5 @@
 -- A query text has one tree.
-use Rattle.std.proofs.Common.{◌≡◌, ℕ, ◌+◌, ◌<◌, ◌≤◌, List, [], ◌∷◌, ◌++◌, length, sym, refl, ap, ◌∙◌, subst, append_assoc, append-nil, arith, length-append}
+use Rattle.std.proofs.Common.{◌≡◌, ℕ, ◌<◌, ◌≤◌, List, [], ◌∷◌, ◌++◌, length, sym, refl, ap, ◌∙◌, subst, append_assoc, append-nil, arith, length-append}
 use native.Mathlib.Bridge.{le_prop}
 use Rattle.query.specs.Grammar as G
 use Rattle.query.specs.Grammar.{Layer, Tree, text, letter, dot, group, plain, one_step, joined, one_sequence, either}

@@ -1,12 +1,12 @@
 -- The machine over the bytes of a query reads the texts of the trees.
-use Rattle.std.proofs.Common.{◌≡◌, ℕ, zero, suc, ◌+◌, ◌<◌, ◌≤◌, Bool, true, false, cond, ◌&&◌, eqb, leb, ◌⊎◌, List, [], ◌∷◌, ◌++◌, length, take, drop, sym, refl, ap, ◌∙◌, subst, inl, inr, append_assoc, append-nil, arith, length-append, length-drop}
+use Rattle.std.proofs.Common.{◌≡◌, ℕ, zero, suc, true, false, cond, eqb, List, [], ◌∷◌, ◌++◌, sym, refl, ap, ◌∙◌, subst, inl, inr, append_assoc, append-nil, arith}
 use Rattle.std.proofs.lemmas.Bool.Decides.{nat_tests}
-use Rattle.std.proofs.lemmas.Bool.{cases_lt, cases_eq, le-leb}
+use Rattle.std.proofs.lemmas.Bool.{cases_eq, le-leb}
 use Rattle.query.specs.Grammar as G
 use Rattle.query.specs.Grammar.{Layer, Kind, atom, opening, closing, sign, slash, bar, other, Tree, alternative, text, State, kind, Took, Halted, Stops, goes_on}
-use Rattle.query.specs.Queries.{Capital, HeadTree, one_name, more_names, names, Inside, nothing, filled, inside_text, AtomTree, atom_tree, atom_text, AtomsTree, one_atom, more_atoms, atoms_text, QueryTree, query_tree, query_text, IsQuery, Begins, Longest}
+use Rattle.query.specs.Queries.{Capital, HeadTree, one_name, more_names, names, Inside, nothing, filled, inside_text, AtomTree, atom_tree, atom_text, AtomsTree, one_atom, more_atoms, atoms_text, QueryTree, query_tree, query_text}
 use Rattle.query.specs.Viable.{capital, Stage, start, in_head, at-atom, at_Bracket, opened, at_second, done, dead, expects, after, lift, go, goes, Halts}
-use Rattle.query.proofs.Bytes.{runs, run_all}
+use Rattle.query.proofs.Bytes.{run_all}
 
 pub goes_append : (s : Stage) (u v : List ℕ) → goes s (u ++ v) ≡ goes (goes s u) v
 goes_append s [] v = refl

@@ -1,5 +1,5 @@
 -- Heads and atoms, read or stopped.
-use Rattle.std.proofs.Common.{◌≡◌, ℕ, zero, suc, ◌+◌, ◌-◌, ◌<◌, ◌≤◌, Bool, true, false, cond, ◌&&◌, eqb, leb, ◌≢◌, ◌⊎◌, List, [], ◌∷◌, ◌++◌, length, get_or, take, drop, set, Ok, Err, Result, sym, refl, ap, ◌∙◌, subst, inl, inr, append_assoc, append-nil, arith, length-append, length-drop, length-set, get_or-set_other, get_or-set_same}
+use Rattle.std.proofs.Common.{◌≡◌, ℕ, ◌+◌, ◌<◌, ◌≤◌, true, false, cond, ◌≢◌, ◌⊎◌, List, [], ◌∷◌, ◌++◌, length, drop, set, Ok, Err, sym, refl, ap, ◌∙◌, subst, inl, inr, append_assoc, append-nil, arith, length-append, length-set, get_or-set_other, get_or-set_same}
 use Rattle.std.proofs.lemmas.Bool.{cases_lt}
 use Rattle.std.proofs.lemmas.List.{get_or_append_left, get_or_push}
 use Rattle.std.proofs.lemmas.Bool.Decides.{nat_tests}
@@ -11,11 +11,11 @@ use Rattle.automata.specs.declared.builder.Builder.{Builder}
 use Rattle.query.specs.Grammar.{alternative, text}
 use Rattle.automata.specs.Parts.{Holds}
 use Rattle.query.specs.Outcome.{rest, Outcome, Eats}
-use Rattle.query.specs.Queries.{Capital, HeadTree, one_name, more_names, names, Inside, nothing, filled, inside_text, inside_regex, AtomTree, atom_tree, atom_text, AtomsTree, one_atom, more_atoms, atoms_text, QueryTree, query_tree, query_text, IsQuery, Begins, Longest}
-use Rattle.query.specs.Viable.{capital, Stage, start, in_head, at-atom, at_Bracket, opened, at_second, done, dead, expects, after, go, goes, Halts}
+use Rattle.query.specs.Queries.{Capital, HeadTree, one_name, more_names, names, Inside, nothing, filled, inside_text, inside_regex, AtomTree, atom_tree, AtomsTree, one_atom, query_tree}
+use Rattle.query.specs.Viable.{capital, start, in_head, at-atom, at_Bracket, opened, at_second, dead, go, goes, Halts}
 use Rattle.query.specs.Limits.{Stored, Keeps, first_of, second_of, inside_of}
-use Rattle.query.specs.Readings.{Went, Named, Enclosed, Atomed, Headed}
-use Rattle.query.proofs.Stages.{goes_append, capital_true, runs_head, runs_inside, runs_atom, runs_atoms, runs_query, halts_at, halts_under, inside_open, inside_halts}
+use Rattle.query.specs.Readings.{Named, Enclosed, Atomed, Headed}
+use Rattle.query.proofs.Stages.{capital_true, runs_head, runs_inside, halts_at, halts_under, inside_open, inside_halts}
 
 -- What stands in brackets.
 pub inside_fails : {z a n : Reader} {m m' : Builder} {y : ℕ} → Eats 93 z a false → Outcome alternative a n m m' (Err y) → Enclosed z n m m' (Err y)

@@ -1,9 +1,9 @@
 -- Atoms as the record keeps them, and the limits: at most eight atoms, and 63 letters and dots in an expression.
-use Rattle.std.specs.Prelude.{◌≡◌, ℕ, ◌+◌, ◌<◌, ◌≤◌, Bool, true, false, cond, ◌&&◌, ◌||◌, ◌⊎◌, List, [], ◌∷◌, ◌++◌, length, Option, MatchOption, ◌==◌, nat_le, slice_index, slice_index_or}
+use Rattle.std.specs.Prelude.{◌≡◌, ℕ, ◌+◌, ◌<◌, ◌≤◌, Bool, true, cond, ◌&&◌, ◌||◌, ◌⊎◌, List, [], ◌∷◌, ◌++◌, length, Option, MatchOption, ◌==◌, nat_le, slice_index, slice_index_or}
 use Rattle.query.specs.declared.drafts.Atom.{Atom}
 use Rattle.query.specs.declared.drafts.Head.{Head}
 use Rattle.automata.specs.Machines.{Recognizes}
-use Rattle.query.specs.Queries.{Inside, inside_text, inside_regex, AtomTree, atom_tree, atom_text, AtomsTree, one_atom, more_atoms, atoms_text, HeadTree, QueryTree, query_tree, query_text, names}
+use Rattle.query.specs.Queries.{Inside, inside_text, inside_regex, AtomTree, atom_tree, AtomsTree, one_atom, more_atoms, atoms_text, QueryTree, query_tree, names}
 
 abbrev pub first_of : AtomTree → ℕ
 first_of (atom_tree u h i v k) = u

@@ -1,19 +1,16 @@
 -- What each reader of a part of a query text does.
-use Rattle.std.specs.Prelude.{◌≡◌, ℕ, ◌+◌, ◌<◌, ◌≤◌, List, [], ◌∷◌, ◌++◌, length, IfSome, Some, None, Option, Result, MatchOption, MatchResult, slice_index_or}
+use Rattle.std.specs.Prelude.{◌≡◌, ℕ, ◌+◌, ◌<◌, ◌≤◌, List, [], ◌∷◌, ◌++◌, length, IfSome, Result, MatchOption, MatchResult, slice_index_or}
 use Rattle.query.specs.declared.reader.Reader.{Reader}
 use Rattle.query.specs.declared.drafts.Atom.{Atom}
 use Rattle.query.specs.declared.drafts.Head.{Head}
 use Rattle.query.specs.declared.drafts.Draft.{Draft}
-use Rattle.query.specs.declared.drafts.Query.{Query}
-use Rattle.query.specs.declared.drafts.Fault.{Fault}
-use Rattle.query.specs.declared.drafts.Fault.TheVariants.{NoQuery, TooLarge}
 use Rattle.automata.specs.declared.builder.Part.{Part}
 use Rattle.automata.specs.declared.builder.Builder.{Builder}
 use Rattle.automata.specs.Parts.{Holds}
 use Rattle.query.specs.Outcome.{rest}
-use Rattle.query.specs.Queries.{Capital, Inside, inside_text, inside_regex, AtomTree, atom_text, AtomsTree, atoms_text, HeadTree, names, QueryTree, query_tree, query_text, IsQuery, Longest}
+use Rattle.query.specs.Queries.{Capital, Inside, inside_text, inside_regex, AtomTree, atom_text, AtomsTree, HeadTree, names, QueryTree, query_tree, query_text, IsQuery, Longest}
 use Rattle.query.specs.Viable.{Halts, start, at-atom, opened}
-use Rattle.query.specs.Limits.{Stored, Keeps, Rows, Rightly, Over, Overs, Lowest, Large, number, symbols, SixtyFourth}
+use Rattle.query.specs.Limits.{Stored, Keeps, Rows, Over, Overs, Lowest, number}
 
 pub record Went (old new : Reader) : Type 0 where
   pub within : new.at ≤ length new.text.now

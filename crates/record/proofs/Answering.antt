@@ -1,8 +1,8 @@
 -- Where the tables keep exactly the pairs that satisfying assignments use, the tuples that fit are the answers.
-use Rattle.std.proofs.Common.{◌≡◌, ℕ, zero, suc, ◌<◌, ◌≤◌, Bool, true, cond, eqb, ◌⊎◌, ◌↔◌, List, length, get_or, sym, refl, ap, ◌∙◌, subst, inl, inr, ⊎_elim, arith}
+use Rattle.std.proofs.Common.{◌≡◌, ℕ, zero, suc, ◌<◌, true, ◌⊎◌, ◌↔◌, List, length, get_or, sym, refl, ap, ◌∙◌, subst, inl, inr, ⊎_elim, arith}
 use Rattle.std.proofs.lemmas.Bool.{cases_eq, cases_lt}
 use Rattle.meaning.specs.Answers.{Query, Pair, Satisfying, Kept, Answer}
-use Rattle.meaning.specs.Assignments.{Relations, Satisfies, Uses}
+use Rattle.meaning.specs.Assignments.{Relations, Satisfies}
 use Rattle.meaning.specs.Graphs.{Graph}
 use Rattle.meaning.specs.Shapes.{Atoms, Has, Joins}
 use Rattle.meaning.specs.Tuples.{node}

@@ -1,9 +1,9 @@
 -- Fitting by the places of variables is fitting by the variables.
-use Rattle.std.proofs.Common.{◌≡◌, ℕ, ◌*◌, ◌<◌, ◌≤◌, Bool, true, false, cond, eqb, ◌⊎◌, ◌↔◌, List, length, get_or, take, Some, None, Option, sym, refl, ap, ◌∙◌, subst, inl, inr, arith, length-take, get_or-take}
+use Rattle.std.proofs.Common.{◌≡◌, ℕ, ◌<◌, Bool, true, false, cond, eqb, List, length, get_or, take, Some, None, Option, sym, refl, ap, ◌∙◌, subst, inl, inr, arith, length-take, get_or-take}
 use Rattle.std.proofs.lemmas.Bool.{both_ways, cases_eq, cases_lt}
 use Rattle.meaning.specs.Assignments.{Relations}
 use Rattle.meaning.specs.Shapes.{Atoms, Has}
-use Rattle.meaning.specs.Tuples.{node, Above, Least, Lowest}
+use Rattle.meaning.specs.Tuples.{node, Lowest}
 use Rattle.shapes.specs.declared.checks.Ends.{Ends}
 use Rattle.shapes.specs.Checks.{of, blank, Absent}
 use Rattle.search.specs.declared.places.Places.{Places as Kept}
@@ -12,7 +12,7 @@ use Rattle.search.specs.Heads.{placed, PlaceOf, RootOf, Placed}
 use Rattle.bits.specs.Rows.{width}
 use Rattle.joins.specs.Layouts.{tables}
 use Rattle.parse.specs.Shaping.{no_atom, pair}
-use Rattle.parse.proofs.Facts.{count_few, count_some, head_few, head_some, head_distinct, names_long, start_used}
+use Rattle.parse.proofs.Facts.{count_few, head_few, head_some, head_distinct, names_long, start_used}
 use Rattle.record.specs.declared.records.Query.{Query}
 use Rattle.record.specs.Calls.{Fits, Fitting, atoms, head}
 

@@ -1,5 +1,5 @@
 -- A listing begins, goes on, and is whole.
-use Rattle.std.proofs.Common.{◌≡◌, ℕ, ◌+◌, ◌<◌, ◌≤◌, Bool, true, false, cond, eqb, ◌⊎◌, ◌↔◌, List, [], ◌∷◌, length, get_or, take, IfOk, Some, None, Ok, Err, Option, Result, sym, refl, ap, ◌∙◌, subst, inl, inr, ⊎_elim, arith, get_or-take}
+use Rattle.std.proofs.Common.{◌≡◌, ℕ, ◌+◌, ◌<◌, Bool, true, false, cond, eqb, ◌↔◌, List, [], ◌∷◌, length, get_or, take, IfOk, Some, Ok, Err, Option, Result, sym, refl, ap, ◌∙◌, subst, inl, inr, ⊎_elim, arith, get_or-take}
 use Rattle.std.proofs.lemmas.List.{get_or_default, same_lists}
 use Rattle.std.proofs.lemmas.Bool.{both_ways}
 use Rattle.bits.specs.Rows.{width}
@@ -9,7 +9,7 @@ use Rattle.meaning.specs.Assignments.{Relations}
 use Rattle.meaning.specs.Graphs.{Graph}
 use Rattle.meaning.specs.Listings.{Outcome, gave, ended, given, AboveNewest, Gives, Nexts, Whole}
 use Rattle.meaning.specs.Shapes.{Atoms, Has, Joins}
-use Rattle.meaning.specs.Tuples.{node, Lower, Above}
+use Rattle.meaning.specs.Tuples.{Lower, Above}
 use Rattle.meaning.proofs.Listing.{whole_from}
 use Rattle.shapes.specs.declared.checks.Ends.{Ends}
 use Rattle.shapes.specs.Checks.{of, blank}
@@ -23,7 +23,6 @@ use Rattle.parse.specs.Shaping.{ends, no_atom}
 use Rattle.parse.proofs.Facts.{head_few}
 use Rattle.parse.proofs.Shaped.{ends_at, ends_long, names_some}
 use Rattle.joins.specs.Layouts.{tables}
-use Rattle.joins.specs.Plans.{Occurs}
 use Rattle.joins.proofs.Placing.{parts, whole}
 use Rattle.engine.specs.Filled.{Filled}
 use Rattle.record.specs.declared.calls.Fault.{Fault}
@@ -33,7 +32,7 @@ use Rattle.record.specs.Calls as calls
 use Rattle.record.specs.declared.records.Listing.{Listing}
 use Rattle.record.specs.declared.records.Opened.{Opened}
 use Rattle.record.specs.Calls.{Calibrated, Calibrates, Fits, Fitting, Gave, Unchanged, atoms, head, last_of, noted_of}
-use Rattle.record.specs.Listing.{Notes, after, Lists, Goes_on, Begins}
+use Rattle.record.specs.Listing.{Notes, Lists, Goes_on, Begins}
 use Rattle.record.proofs.Answering.{answers_from, answers_to}
 use Rattle.record.proofs.Fitness.{head_long}
 

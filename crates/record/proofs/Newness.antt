@@ -1,16 +1,16 @@
 -- The text of a new record passes every check.
-use Rattle.std.proofs.Common.{◌≡◌, ℕ, zero, suc, ◌+◌, ◌<◌, ◌≤◌, Bool, true, false, cond, ◌⊎◌, List, [], ◌∷◌, ◌++◌, length, get_or, Ok, Err, sym, refl, ap, ◌∙◌, subst, inl, inr, arith, length-append}
-use Rattle.meaning.specs.Shapes.{Atoms, Joins, Has, Step, Chain, Connected, Cycle, Before}
+use Rattle.std.proofs.Common.{◌≡◌, ℕ, ◌<◌, ◌≤◌, Bool, true, false, cond, List, [], ◌∷◌, length, Err, sym, refl, ap, subst, inl, inr, arith, length-append}
+use Rattle.meaning.specs.Shapes.{Atoms, Has, Step, Chain, Connected, Before}
 use Rattle.meaning.proofs.Chains.{connected_same, connected_step, connected_trans, connected_turn, cycle_opens}
 use Rattle.shapes.specs.declared.checks.Ends.{Ends}
 use Rattle.shapes.specs.declared.verdicts.Fault.{Fault}
 use Rattle.shapes.specs.declared.verdicts.Fault.TheVariants.{RepeatedVariable, UnusedVariable, CyclicAtom, UnconnectedAtom, LoneVariable}
-use Rattle.shapes.specs.Checks.{of, Repeated, Unused, Cyclic, Unconnected, Alone}
+use Rattle.shapes.specs.Checks.{of, Repeated, Unused, Cyclic, Unconnected}
 use Rattle.shapes.specs.Verdicts.{Verdict}
 use Rattle.shapes.proofs.Merging.{cycle_none}
 use Rattle.query.specs.Grammar.{dot, plain, one_step, one_sequence}
 use Rattle.query.specs.Queries.{HeadTree, one_name, names, filled, AtomTree, atom_tree, one_atom, QueryTree, query_tree, query_text}
-use Rattle.query.specs.Limits.{symbols, weigh, symbol, SixtyFourth, Over, Large}
+use Rattle.query.specs.Limits.{symbols, symbol, Large}
 use Rattle.query.specs.declared.drafts.Fault.TheVariants.{NoQuery, TooLarge}
 use Rattle.parse.specs.declared.Refusal.{Refusal}
 use Rattle.parse.specs.declared.Refusal.TheVariants.{TooLong, Unread, Misshapen}

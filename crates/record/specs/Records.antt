@@ -1,6 +1,5 @@
 -- The record of a query that a caller lends: what it holds when it is new, and what open leaves in it.
 use Rattle.std.specs.Prelude.{◌≡◌, ℕ, ◌≤◌, List, [], ◌∷◌, length, None, Result, MatchResult}
-use Rattle.parse.specs.declared.Parsed.{Parsed}
 use Rattle.parse.specs.declared.Refusal.{Refusal}
 use Rattle.parse.specs.Parsing.{Accepted, Denied}
 use Rattle.record.specs.declared.records.Query.{Query}

@@ -1,7 +1,7 @@
 -- Classes of connected variables.
-use Rattle.std.proofs.Common.{◌≡◌, ℕ, zero, suc, ◌+◌, ◌<◌, ◌≤◌, cond, eqb, ◌⊎◌, List, [], ◌∷◌, length, get_or, sym, refl, ap, ◌∙◌, subst, inl, inr, add-one, arith}
+use Rattle.std.proofs.Common.{◌≡◌, ℕ, suc, ◌+◌, ◌<◌, ◌≤◌, eqb, List, [], ◌∷◌, length, get_or, sym, refl, ap, ◌∙◌, subst, inl, inr, add-one, arith}
 use Rattle.std.proofs.lemmas.Bool.{cases_eq, cond-true, cond-false, eq-eqb, ne_eqb}
-use Rattle.meaning.specs.Shapes.{Atoms, Joins, Has, Step, Chain, Connected, Cycle, Before}
+use Rattle.meaning.specs.Shapes.{Atoms, Has, Step, Chain, Connected, Cycle, Before}
 use Rattle.shapes.specs.Classes.{Classes, Merged}
 use Rattle.meaning.proofs.Chains.{connected_same, connected_step, connected_trans, connected_turn, connected_more, cycle_more, cycle_closes, cycle_opens}
 

@@ -1,12 +1,12 @@
 -- The labels of a step, one after another.
-use Rattle.std.proofs.Common.{◌≡◌, ℕ, ◌+◌, ◌^◌, ◌<◌, ◌≤◌, true, ◌⊎◌, ◌↔◌, List, length, get_or, sym, refl, ap, ◌∙◌, subst, inl, inr, ⊎_elim, arith}
+use Rattle.std.proofs.Common.{◌≡◌, ℕ, ◌+◌, ◌<◌, true, ◌↔◌, List, subst, inl, inr, ⊎_elim, arith}
 use lib.Bits.{bit_and}
 use Rattle.std.proofs.lemmas.Bool.{cases_eq}
 use Rattle.bits.specs.Bits.{Has}
 use Rattle.bits.proofs.Sets.{has_and}
 use Rattle.meaning.specs.Graphs.{Edges}
 use Rattle.automata.specs.declared.machine.Automaton.{Automaton}
-use Rattle.walk.specs.Moves.{In, Enters, Moves, Successors}
+use Rattle.walk.specs.Moves.{Enters, Moves, Successors}
 use Rattle.walk.specs.Marked.{Grown}
 use Rattle.walk.proofs.Marking.{grown_none, grown_then, grown_as}
 

@@ -1,19 +1,17 @@
 -- The first record of a file.
-use Rattle.std.proofs.Common.{◌≡◌, ℕ, ◌<◌, true, false, List, [], ◌∷◌, length, drop, Some, None, Ok, Err, Option, Result, sym, refl, ap, ◌∙◌, subst}
-use Rattle.meaning.specs.Graphs.{Graph, Within, New}
-use Rattle.meaning.specs.Refusals.{first}
+use Rattle.std.proofs.Common.{◌≡◌, ℕ, true, false, List, [], Some, None, Ok, Err, Option, Result, sym, ap, ◌∙◌, subst}
+use Rattle.meaning.specs.Graphs.{Within, New}
 use Rattle.graph.specs.declared.list.Sizes.{Sizes as ListSizes}
 use Rattle.graph.specs.declared.outcomes.SizeFault.{SizeFault}
 use Rattle.graph.specs.Calls.{BadSizes}
 use Rattle.wiring.specs.declared.faults.Fault.{Fault}
 use Rattle.wiring.specs.declared.faults.Fault.TheVariants.{BadSizes as bad_sizes}
 use Rattle.wiring.specs.declared.phases.Phase.{Phase}
-use Rattle.wiring.specs.declared.phases.Phase.TheVariants.{Start, Loading}
+use Rattle.wiring.specs.declared.phases.Phase.TheVariants.{Start}
 use Rattle.wiring.specs.declared.records.Record.{Record}
 use Rattle.wiring.specs.declared.records.Record.TheVariants.{Sizes}
-use Rattle.wiring.specs.Numbers.{number}
-use Rattle.wiring.specs.Order.{started, admits, record_refusals, Nexts, Gives, Stops, Ends}
-use Rattle.wiring.specs.Reading.{Reached, Read, Fine, refusal}
+use Rattle.wiring.specs.Order.{admits, Nexts, Gives, Stops, Ends}
+use Rattle.wiring.specs.Reading.{Reached, Read, Fine}
 use Rattle.wiring.specs.Reading.Reached.{begun, made}
 use Rattle.wiring.specs.Reading.Read.{ended, stopped, unsized}
 use Rattle.wiring.specs.Surveys.{Opens}

@@ -1,5 +1,5 @@
 -- A record from its header and payload.
-use Rattle.std.proofs.Common.{◌≡◌, ℕ, ◌+◌, ◌-◌, ◌<◌, ◌≤◌, Bool, true, false, not, ◌||◌, ltb, List, length, take, drop, None, Ok, sym, refl, ap, ◌∙◌, subst, arith, length-drop, length-take, take_all, drop-drop}
+use Rattle.std.proofs.Common.{◌≡◌, ℕ, ◌+◌, ◌-◌, ◌≤◌, true, false, ltb, List, length, take, drop, None, Ok, sym, ap, ◌∙◌, subst, arith, length-drop, length-take, take_all, drop-drop}
 use Rattle.std.proofs.lemmas.Bool.{le-ltb}
 use Rattle.meaning.specs.Refusals.{first}
 use Rattle.wiring.specs.declared.records.Record.{Record}

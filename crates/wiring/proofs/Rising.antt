@@ -1,10 +1,10 @@
 -- Rising lists of edges, made in the order of nodes, labels and ends.
-use Rattle.std.proofs.Common.{◌≡◌, ℕ, ◌+◌, ◌<◌, ◌≤◌, true, false, ◌⊎◌, List, [], ◌∷◌, ◌++◌, length, get_or, Some, None, sym, refl, ap, ◌∙◌, subst, inl, inr, ⊎_elim, arith}
+use Rattle.std.proofs.Common.{◌≡◌, ℕ, ◌+◌, ◌<◌, ◌≤◌, true, ◌⊎◌, List, [], ◌∷◌, ◌++◌, length, get_or, Some, None, sym, refl, ap, ◌∙◌, subst, inl, inr, ⊎_elim, arith}
 use Rattle.std.proofs.lemmas.Bool.{cases_lt, both_ways}
 use Rattle.std.proofs.lemmas.List.{get_or_append_left, get_or_push, length_push}
 use Rattle.meaning.specs.Graphs.{Graph}
 use Rattle.graph.specs.declared.edges.Edge.{Edge}
-use Rattle.graph.specs.Edges.{edge, blank, holds, Lowest}
+use Rattle.graph.specs.Edges.{edge, blank, Lowest}
 use Rattle.wiring.specs.Listing.{Before, Lists, Wire, WireBelow}
 
 pub lists_same : (P Q : Edge → Type 0) (xs : List Edge) → ((e : Edge) → P e → Q e) → ((e : Edge) → Q e → P e) → Lists P xs → Lists Q xs

@@ -1,5 +1,5 @@
 -- One record more of a file, after the sizes record.
-use Rattle.std.proofs.Common.{◌≡◌, ℕ, ◌+◌, ◌<◌, ◌≤◌, true, List, [], ◌∷◌, ◌++◌, length, drop, Some, None, Ok, Err, Option, sym, refl, ap, ◌∙◌, subst, arith}
+use Rattle.std.proofs.Common.{◌≡◌, ℕ, ◌<◌, true, List, [], ◌∷◌, ◌++◌, drop, Some, None, Ok, Option, sym, ◌∙◌, subst, arith}
 use Rattle.meaning.specs.Graphs.{Graph}
 use Rattle.meaning.specs.Refusals.{first}
 use Rattle.wiring.specs.declared.faults.Fault.{Fault}
@@ -9,7 +9,7 @@ use Rattle.wiring.specs.declared.phases.Phase.TheVariants.{Loading}
 use Rattle.wiring.specs.declared.records.Record.{Record}
 use Rattle.wiring.specs.Numbers.{number}
 use Rattle.wiring.specs.Order.{started, admits, record_refusals, Nexts, Gives, Stops, Ends}
-use Rattle.wiring.specs.Reading.{Reached, Read, Fine, Obeys, behind, refusal}
+use Rattle.wiring.specs.Reading.{Reached, Read, Fine, Obeys, refusal}
 use Rattle.wiring.specs.Reading.Reached.{obeyed}
 use Rattle.wiring.specs.Reading.Read.{ended, stopped}
 

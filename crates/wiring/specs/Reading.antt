@@ -9,7 +9,6 @@
 use Rattle.std.specs.Prelude.{◌≡◌, ℕ, ◌+◌, ◌<◌, Bool, true, false, ◌⊎◌, List, [], ◌∷◌, ◌++◌, length, drop, is_some, Some, None, Ok, Err, Option}
 use Rattle.meaning.specs.Graphs.{Graph, Within, New}
 use Rattle.meaning.specs.Refusals.{first}
-use Rattle.graph.specs.declared.changes.Change.{Change as GraphChange}
 use Rattle.graph.specs.declared.changes.Changed.{Changed}
 use Rattle.graph.specs.declared.outcomes.Fault.{Fault as GraphFault}
 use Rattle.graph.specs.declared.outcomes.SizeFault.{SizeFault}

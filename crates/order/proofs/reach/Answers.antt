@@ -1,8 +1,8 @@
-use Rattle.std.proofs.Common.{◌≡◌, ℕ, ◌<◌, ◌≤◌, length, get_or, set, replicate, refl, arith, length-set}
+use Rattle.std.proofs.Common.{ℕ, ◌<◌, ◌≤◌, length, get_or, refl, arith, length-set}
 use lib.ListN.{get_or-replicate}
 use Rattle.shapes.specs.Checks.{of}
 use Rattle.order.specs.Ranks.{ranks}
-use Rattle.order.proofs.Taking.{Taking, open_room, taking_none, taking_more, taking_all, chosen_all, changed_set, start_seen, acyclic_from}
+use Rattle.order.proofs.Taking.{open_room, taking_none, taking_more, taking_all, chosen_all, changed_set, start_seen, acyclic_from}
 use Rattle.order.proofs.reach.Goals as goal
 
 pub loop-c-init : goal.loop-c-init

@@ -1,4 +1,4 @@
-use Rattle.std.proofs.Common.{◌≡◌, ℕ, ◌-◌, length, get_or}
+use Rattle.std.proofs.Common.{◌≡◌, ◌-◌, length, get_or}
 use Rattle.shapes.specs.Checks.{of}
 use Rattle.order.specs.Ranks.{ranks}
 use Rattle.order.proofs.Taking.{Taking}

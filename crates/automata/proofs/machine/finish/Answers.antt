@@ -1,4 +1,4 @@
-use Rattle.std.proofs.Common.{◌≡◌, ◌-◌, ◌<◌, cond, length, set, sym, refl, ap, ◌∙◌, arith, rules}
+use Rattle.std.proofs.Common.{◌≡◌, ◌<◌, cond, length, set, refl, arith, rules}
 use lib.Bits.{bit_or}
 use Rattle.automata.specs.declared.machine.Automaton.{Automaton}
 use Rattle.automata.proofs.Starting.{started, started_words}

@@ -1,4 +1,4 @@
-use Rattle.std.proofs.Common.{arith, rules}
+use Rattle.std.proofs.Common.{arith}
 use Rattle.bits.proofs.RowLaws.{cleared_more}
 use Rattle.bits.proofs.rows.clear.Goals as goal
 

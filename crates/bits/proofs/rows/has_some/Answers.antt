@@ -1,4 +1,4 @@
-use Rattle.std.proofs.Common.{refl, arith, rules}
+use Rattle.std.proofs.Common.{refl, arith}
 use Rattle.std.proofs.lemmas.Bool.{both_ways}
 use Rattle.bits.proofs.RowLaws.{some_bit_from, no_bit_from}
 use Rattle.bits.proofs.rows.has_some.Goals as goal

@@ -1,4 +1,4 @@
-use Rattle.std.proofs.Common.{◌≡◌, ℕ, subst, inl, inr, arith}
+use Rattle.std.proofs.Common.{◌≡◌, ℕ, subst, inr, arith}
 use lib.Bits.{bit_and}
 use Rattle.bits.proofs.RowLaws.{Changed, changed_none, changed_more, narrowed_from}
 use Rattle.bits.proofs.rows.narrow.Goals as goal

@@ -1,4 +1,4 @@
-use Rattle.std.proofs.Common.{◌≡◌, ℕ, subst, inl, inr, arith}
+use Rattle.std.proofs.Common.{◌≡◌, ℕ, subst, inl, arith}
 use lib.Bits.{bit_or}
 use Rattle.bits.proofs.RowLaws.{Changed, changed_none, changed_more, widened_from}
 use Rattle.bits.proofs.rows.widen.Goals as goal

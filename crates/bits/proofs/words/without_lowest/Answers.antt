@@ -1,4 +1,4 @@
-use Rattle.std.proofs.Common.{◌≡◌, ℕ, ◌-◌, ◌<◌, false, cond, eqb, sym, ap, ◌∙◌, subst, arith}
+use Rattle.std.proofs.Common.{◌≡◌, ℕ, ◌-◌, ◌<◌, false, cond, eqb, ap, ◌∙◌, subst, arith}
 use lib.Bits.{bit_and, and_zero_l}
 use Rattle.std.proofs.lemmas.Nat.{and_le_r}
 use Rattle.bits.specs.Bits.{bit}

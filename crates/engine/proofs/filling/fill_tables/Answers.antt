@@ -1,4 +1,4 @@
-use Rattle.std.proofs.Common.{◌≡◌, ℕ, ◌+◌, ◌*◌, ◌≤◌, List, length, take, sym, ap, ◌∙◌, subst, arith, length-take, rules}
+use Rattle.std.proofs.Common.{◌≡◌, ℕ, ◌+◌, ◌*◌, ◌≤◌, List, length, take, sym, ap, ◌∙◌, subst, arith, length-take}
 use Rattle.bits.specs.Rows.{width}
 use Rattle.meaning.specs.Words.{one, any}
 use Rattle.shapes.specs.declared.checks.Ends.{Ends}

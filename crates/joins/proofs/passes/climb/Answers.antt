@@ -1,7 +1,6 @@
-use Rattle.std.proofs.Common.{◌≡◌, ℕ, length, sym, subst, arith}
+use Rattle.std.proofs.Common.{length, arith}
 use Rattle.order.specs.Ranks.{ranks}
 use Rattle.shapes.specs.Checks.{of}
-use Rattle.joins.specs.Passes.{Climbed}
 use Rattle.joins.proofs.Ranking.{climbed_none, climbed_more, climbed_all}
 use Rattle.joins.proofs.passes.climb.Goals as goal
 

@@ -1,4 +1,4 @@
-use Rattle.std.proofs.Common.{◌*◌, ◌≤◌, eqb, length, get_or, arith, rules}
+use Rattle.std.proofs.Common.{◌*◌, ◌≤◌, eqb, length, arith, rules}
 use Rattle.shapes.specs.Checks.{of}
 use Rattle.joins.proofs.Siding.{row_end, joined_from}
 use Rattle.joins.proofs.Placing.{reduced_from}

@@ -1,4 +1,4 @@
-use Rattle.std.proofs.Common.{◌≡◌, Bool, true, false, sym, subst}
+use Rattle.std.proofs.Common.{Bool, true, false, sym, subst}
 use Rattle.joins.specs.Sides.{Noted}
 use Rattle.joins.proofs.Siding.{noted_from}
 use Rattle.joins.proofs.sides.note.Goals as goal

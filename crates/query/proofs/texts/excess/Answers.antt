@@ -1,5 +1,5 @@
 use Rattle.std.proofs.Common.{arith}
-use Rattle.query.proofs.Letters.{over_ninth, over_letters, over_none}
+use Rattle.query.proofs.Letters.{over_letters, over_none}
 use Rattle.query.proofs.texts.excess.Goals as goal
 
 pub returns-then-size-gt63 : goal.returns-then-size-gt63

@@ -1,6 +1,5 @@
-use Rattle.std.proofs.Common.{◌≡◌, true, false, get_or, sym, refl, ap, ◌∙◌, arith}
-use Rattle.query.specs.Limits.{symbol, weigh}
-use Rattle.query.proofs.Letters.{Sought, sought_none, sought_more, sought_here, sought_nowhere, weighs, weighs_not}
+use Rattle.std.proofs.Common.{get_or, sym, arith}
+use Rattle.query.proofs.Letters.{sought_none, sought_more, sought_here, sought_nowhere, weighs, weighs_not}
 use Rattle.query.proofs.texts.sixty_fourth.Goals.{then-is_symbol+else-seen-eq63, else-is_symbol}
 use Rattle.query.proofs.texts.sixty_fourth.Goals as goal
 

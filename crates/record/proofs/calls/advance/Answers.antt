@@ -1,4 +1,4 @@
-use Rattle.std.proofs.Common.{◌≡◌, ℕ, ◌<◌, List, get_or, sym, refl, ◌∙◌, subst, arith, rules}
+use Rattle.std.proofs.Common.{◌≡◌, ℕ, ◌<◌, List, get_or, refl, subst, arith}
 use Rattle.parse.proofs.Facts.{count_few, head_few}
 use Rattle.record.proofs.Fitness.{head_long}
 use Rattle.record.proofs.calls.advance.Goals as goal

@@ -1,4 +1,4 @@
-use Rattle.std.proofs.Common.{◌≡◌, ℕ, ◌≤◌, length, subst, arith, rules}
+use Rattle.std.proofs.Common.{ℕ, ◌≤◌, length, subst, arith}
 use Rattle.parse.proofs.Facts.{arranged, count_few, count_some}
 use Rattle.record.specs.Calls.{needed}
 use Rattle.record.proofs.calls.prepare.Goals as goal

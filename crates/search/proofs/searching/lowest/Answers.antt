@@ -1,11 +1,11 @@
-use Rattle.std.proofs.Common.{◌≡◌, ℕ, ◌+◌, ◌-◌, ◌<◌, ◌≤◌, true, false, List, set, replicate, sym, refl, ap, ◌∙◌, subst, inl, inr, arith}
+use Rattle.std.proofs.Common.{ℕ, ◌+◌, ◌-◌, ◌<◌, ◌≤◌, false, set, replicate, sym, refl, ◌∙◌, subst, inl, inr, arith}
 use Rattle.std.proofs.lemmas.Bool.{both_ways, cases_eq}
-use Rattle.meaning.specs.Tuples.{node, Least}
+use Rattle.meaning.specs.Tuples.{node}
 use Rattle.joins.specs.Layouts.{tables}
 use Rattle.search.specs.Heads.{placed}
 use Rattle.search.specs.Places.{Goes}
 use Rattle.search.proofs.Testing.{goes_prefix}
-use Rattle.search.proofs.Moves.{least_from, all_from_fits, State, Put, put_set, rise, descend, ascend_at, start_low, start_last, finish, none, state_at, step_down, step_up}
+use Rattle.search.proofs.Moves.{least_from, all_from_fits, State, put_set, rise, descend, ascend_at, start_low, start_last, finish, none, state_at, step_down, step_up}
 use Rattle.search.proofs.searching.lowest.Goals as goal
 use Rattle.search.proofs.searching.lowest.Goals.{then-noted, then-loop-at-test+else-goes, else-loop-at-test, else-noted, then-loop-cur-test+then-goes-2+then-at-h, else-loop-cur-test+then-at-eq0}
 

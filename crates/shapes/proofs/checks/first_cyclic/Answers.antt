@@ -1,4 +1,4 @@
-use Rattle.std.proofs.Common.{◌≡◌, ℕ, ◌<◌, length, sym, arith}
+use Rattle.std.proofs.Common.{◌≡◌, ℕ, ◌<◌, length, arith}
 use Rattle.shapes.specs.Checks.{of}
 use Rattle.shapes.proofs.Merging.{classes_none, cycle_none, classes_more, cycle_not, cycle_first, cycle_all, classes_at}
 use Rattle.shapes.proofs.checks.first_cyclic.Goals as goal

@@ -1,4 +1,4 @@
-use Rattle.std.proofs.Common.{length, sym, arith, below_more}
+use Rattle.std.proofs.Common.{length, arith, below_more}
 use Rattle.shapes.specs.Checks.{of}
 use Rattle.shapes.proofs.Merging.{reached_from_class, class_from_reached}
 use Rattle.shapes.proofs.checks.first_unconnected.Goals as goal

@@ -1,5 +1,5 @@
-use Rattle.std.proofs.Common.{arith, rules}
-use Rattle.walk.proofs.Stepping.{under_none, under_more, under_all}
+use Rattle.std.proofs.Common.{arith}
+use Rattle.walk.proofs.Stepping.{under_more, under_all}
 use Rattle.walk.proofs.marks.step.Goals as goal
 
 pub loop-label-preserved : goal.loop-label-preserved

@@ -1,4 +1,4 @@
-use Rattle.std.proofs.Common.{ℕ, ◌<◌, arith, rules}
+use Rattle.std.proofs.Common.{◌<◌, arith, rules}
 use Rattle.bits.proofs.Sets.{has_below, some_bit}
 use Rattle.walk.proofs.Unions.{following_none, following_more, following_all}
 use Rattle.walk.proofs.masks.successors.Goals as goal

@@ -1,4 +1,4 @@
-use Rattle.std.proofs.Common.{◌≡◌, ℕ, List, refl, ◌∙◌, subst, arith}
+use Rattle.std.proofs.Common.{ℕ, List, refl, subst, arith}
 use Rattle.meaning.specs.Paths.{Path}
 use Rattle.walk.specs.Moves.{Leads}
 use Rattle.walk.proofs.Closure.{seeded_one}

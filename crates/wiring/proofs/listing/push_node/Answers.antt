@@ -1,4 +1,4 @@
-use Rattle.std.proofs.Common.{◌≡◌, ℕ, ◌≤◌, vec_items, subst, arith}
+use Rattle.std.proofs.Common.{◌≡◌, ℕ, vec_items, subst, arith}
 use Rattle.graph.specs.Edges.{edge}
 use Rattle.wiring.specs.Listing.{Lists, WireBelow}
 use Rattle.wiring.proofs.Rising.{node_all}

@@ -1,5 +1,4 @@
 use Rattle.std.proofs.Common.{◌≡◌, ℕ, List, [], Some, Ok, vec_items, Option, sym, ◌∙◌, subst}
-use Rattle.meaning.specs.Graphs.{Graph}
 use Rattle.graph.specs.declared.list.Sizes.{Sizes}
 use Rattle.wiring.specs.declared.faults.Refusal.{Refusal}
 use Rattle.wiring.specs.Reading.{Reached, Read}

@@ -1,6 +1,4 @@
-use Rattle.std.proofs.Common.{◌≡◌, ℕ, ◌+◌, ◌%◌, ◌<◌, true, false, cond, eqb, length, set, refl, ap, ◌∙◌, mod-eq_of_lt, arith, rules}
-use Rattle.std.proofs.lemmas.Bool.{eq-eqb}
-use Rattle.bits.specs.Bits.{bit}
+use Rattle.std.proofs.Common.{◌≡◌, ◌+◌, ◌<◌, false, length, set, refl, arith, rules}
 use Rattle.automata.specs.declared.builder.Builder.{Builder}
 use Rattle.automata.specs.declared.builder.Part.{Part}
 use Rattle.automata.proofs.Joining.{added_holds, added_kept, counted_holds, counted_kept}

@@ -1,4 +1,4 @@
-use Rattle.std.proofs.Common.{◌≡◌, ℕ, ◌%◌, true, false, sym, refl, ap, ◌∙◌, subst, mod-eq_of_lt, arith, length-set, rules}
+use Rattle.std.proofs.Common.{◌≡◌, ℕ, ◌%◌, false, sym, refl, ap, ◌∙◌, subst, mod-eq_of_lt, arith, length-set, rules}
 use Rattle.std.proofs.lemmas.Bool.{both_ways}
 use Rattle.bits.specs.Bits.{bit}
 use Rattle.automata.specs.Sets.{Linked, Has}

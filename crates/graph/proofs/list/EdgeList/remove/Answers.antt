@@ -1,5 +1,4 @@
-use Rattle.std.proofs.Common.{◌≡◌, ◌+◌, ◌-◌, false, get_or, set, refl, arith, length-set}
-use Rattle.meaning.specs.Graphs.{count}
+use Rattle.std.proofs.Common.{◌-◌, false, get_or, set, refl, arith, length-set}
 use Rattle.graph.specs.Edges.{among, blank}
 use Rattle.graph.proofs.Among.{among_at, among_remove, distinct_remove}
 use Rattle.graph.proofs.OneEdge.{count_strike, legal_changed}

@@ -1,7 +1,6 @@
-use Rattle.std.proofs.Common.{◌≡◌, ℕ, ◌-◌, List, length, get_or, set, refl, ap, ◌∙◌, length-set}
+use Rattle.std.proofs.Common.{ℕ, ◌-◌, List, length, get_or, set, ap, ◌∙◌, length-set}
 use Rattle.graph.specs.declared.edges.Edge.{Edge}
 use Rattle.graph.specs.Edges.{among, blank}
-use Rattle.graph.specs.Lists.{graph_of_list}
 use Rattle.graph.proofs.Among.{among_at, among_remove}
 use Rattle.graph.proofs.list_graph.EdgeListGraph.strike.Goals as goal
 

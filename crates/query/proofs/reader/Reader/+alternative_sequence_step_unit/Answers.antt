@@ -1,4 +1,4 @@
-use Rattle.std.proofs.Common.{◌≡◌, List, [], ◌∷◌, sym, refl, ap, ◌∙◌, arith}
+use Rattle.std.proofs.Common.{[], ◌∷◌, refl, ap, arith}
 use Rattle.std.proofs.lemmas.Result.{err_from_is_err_and}
 use Rattle.query.specs.Grammar.{dot, letter}
 use Rattle.query.proofs.Joints.{by_slash, by_bar, by_join, by_either, fails_first, begins, goes_round, fails_later, ends, one_byte, fails_inside, closes, unclosed, fails_unit, with_signs, at_end, bad_here}

@@ -1,5 +1,5 @@
 use Rattle.std.proofs.Common.{◌+◌, ◌-◌, ◌*◌, length}
-use Rattle.query.specs.Grammar.{Layer, alternative, sequence, step}
+use Rattle.query.specs.Grammar.{alternative, sequence, step}
 use Rattle.query.specs.Outcome.{Ahead}
 use Rattle.query.proofs.reader.Reader.+alternative_sequence_step_unit.Given as goal
 

@@ -1,4 +1,3 @@
-use Rattle.std.proofs.Common.{refl}
 use Rattle.std.proofs.lemmas.Result.{err_from_is_err_and}
 use Rattle.query.proofs.Wholes.{atom_unnamed, atom_unopened, atom_inside, atom_unended, atom_read}
 use Rattle.query.proofs.reader.Reader.atom.Goals as goal

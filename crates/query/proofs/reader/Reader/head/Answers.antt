@@ -1,4 +1,4 @@
-use Rattle.std.proofs.Common.{refl, rules}
+use Rattle.std.proofs.Common.{refl}
 use Rattle.std.proofs.lemmas.Result.{err_from_is_err_and}
 use Rattle.query.proofs.Wholes.{head_unnamed, head_begins, head_more, head_fails, head_read, no_names}
 use Rattle.query.proofs.reader.Reader.head.Goals as goal

@@ -1,4 +1,4 @@
-use Rattle.std.proofs.Common.{◌≡◌, refl, arith}
+use Rattle.std.proofs.Common.{refl, arith}
 use Rattle.query.proofs.Joints.{moves_none, sign_more, by_star, by_plus, by_opt}
 use Rattle.query.proofs.reader.Reader.signs.Goals.{in-42, in-43, in-63}
 use Rattle.query.proofs.reader.Reader.signs.Goals as goal

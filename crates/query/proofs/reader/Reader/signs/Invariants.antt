@@ -1,6 +1,5 @@
-use Rattle.std.proofs.Common.{◌≡◌, ◌-◌, ◌≤◌, length}
-use Rattle.query.specs.Grammar.{Tree, step, text}
-use Rattle.query.specs.Outcome.{rest}
+use Rattle.std.proofs.Common.{◌-◌, length}
+use Rattle.query.specs.Grammar.{step}
 use Rattle.query.proofs.Joints.{Moved}
 use Rattle.query.proofs.reader.Reader.signs.Given as goal
 
