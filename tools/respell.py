@@ -30,6 +30,18 @@ OTHER = {
     "put-mid": "put_inside",
 }
 
+# what the first run left: names of a line with several, names that a proof binds, and one that the toolchain's script turned into two styles
+AGAIN = {
+    "at-atom": "at_atom",
+    "at-fresh": "at_fresh",
+    "at-shared": "at_shared",
+    "is-gone": "is_gone",
+    "is-new": "is_new",
+    "is-to": "is_to",
+    "at_Bracket": "at_bracket",
+}
+LEFT = re.compile(r"(?<![\w'.-])(?:" + "|".join(AGAIN) + r")(?![\w'-])")
+
 
 def files(endings):
     for folder, dirs, names in os.walk("crates"):
@@ -98,6 +110,10 @@ def main():
     if bad:
         print("\n".join(bad))
         return 1
+    for path in files((".antt",)):
+        text = changes.get(path) or open(path, encoding="utf-8").read()
+        if LEFT.search(text):
+            changes[path] = LEFT.sub(lambda m: AGAIN[m[0]], text)
     for path, text in changes.items():
         with open(path, "w", encoding="utf-8") as f:
             f.write(text)

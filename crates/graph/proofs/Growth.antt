@@ -69,7 +69,7 @@ total_push f (x ∷ rs) r = let t = total_push f rs r in omega arith
 
 pub replays_push : (g : Graph) (cs : List Change) (n m : ℕ) (h k : Graph) (c : Change) (r : Answer) (x y : ℕ)
     → Replays g cs n m h → Applies h c r k → x ≡ news r → y ≡ gones r → Replays g (cs ++ c ∷ []) (n + x) (m + y) k
-replays_push g cs n m h k c r x y p a is-new is-gone =
+replays_push g cs n m h k c r x y p a is_new is_gone =
     record {
       answers = p.answers ++ r ∷ [];
       runs = runs_push g cs p.answers h k c r p.runs a;

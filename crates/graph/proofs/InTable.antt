@@ -46,12 +46,12 @@ module _ (n q : ℕ) (ws : List ℕ) (e : Edge) (b : Bool) (w : ℕ) (small : n 
       let label : e.label ≡ a = omega arith in
       let f = eq-eqb _ _ from in
       let g = eq-eqb _ _ label in
-      let is-to : is e u a v ≡ eqb e.to v = cc in
+      let is_to : is e u a v ≡ eqb e.to v = cc in
       ap (λ (k : ℕ). bit (get_or (set ws place w) k 0) v) same
       ∙ ap (λ (k : ℕ). bit k v) (get_or-set_same ws place w 0 within)
       ∙ word v
       ∙ ap (λ (k : ℕ). cond (eqb k v) b (bit (get_or ws place 0) v)) to_low
-      ∙ ap (λ (t : Bool). cond t b (bit (get_or ws place 0) v)) (sym is-to)
+      ∙ ap (λ (t : Bool). cond t b (bit (get_or ws place 0) v)) (sym is_to)
       ∙ ap (λ (k : ℕ). cond (is e u a v) b (bit (get_or ws k 0) v)) (sym same)
 
   off_row : (u a v : ℕ) → (a * 64 + u ≡ place → ⊥) → bit (get_or (set ws place w) (a * 64 + u) 0) v ≡ cond (is e u a v) b (bit (get_or ws (a * 64 + u) 0) v)

@@ -67,11 +67,11 @@ module _ (q : Plan) (tree : Hangs q) where
           far_end = put_other r.far y b (q.fresh c) (λ e. let F : ℕ → Type 0 = λ z. Has q.atoms c z in tree.new (suc k) c le lt (subst F e fr)) ∙ r.far_end;
           same = λ i ik ne. elim (cases_eq i (suc k)) [
             | inl e ↦ (let F : ℕ → Type 0 = λ j. g (q.atoms.first j) ≡ g (q.atoms.second j) in
-                let at-shared : g (q.shared (suc k)) ≡ b = put_other r.far y b (q.shared (suc k)) (tree.apart (suc k) le) in
-                let at-fresh : g y ≡ b = put_self r.far y b in
+                let at_shared : g (q.shared (suc k)) ≡ b = put_other r.far y b (q.shared (suc k)) (tree.apart (suc k) le) in
+                let at_fresh : g y ≡ b = put_self r.far y b in
                 subst F (sym e) (elim (tree.ends (suc k) le) [
-                  | inl z ↦ ap g z.0 ∙ at-shared ∙ sym at-fresh ∙ sym (ap g z.1)
-                  | inr z ↦ ap g z.0 ∙ at-fresh ∙ sym at-shared ∙ sym (ap g z.1)
+                  | inl z ↦ ap g z.0 ∙ at_shared ∙ sym at_fresh ∙ sym (ap g z.1)
+                  | inr z ↦ ap g z.0 ∙ at_fresh ∙ sym at_shared ∙ sym (ap g z.1)
                 ]))
             | inr ne' ↦ (let il : i < suc k = omega arith in
                 put_other r.far y b (q.atoms.first i) (λ e. tree.new (suc k) i le il (inl e)) ∙ r.same i (omega arith) ne

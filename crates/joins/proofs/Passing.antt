@@ -98,15 +98,15 @@ module _ (q : Plan) (tree : Hangs q) where
   hang k u v f le agree =
       let y = q.fresh k in
       let w = at_variable q.atoms k (q.fresh k) u v in
-      let at-shared : changed f y w (q.shared k) ≡ at_variable q.atoms k (q.shared k) u v = changed_other f y w (q.shared k) (tree.apart k le) ∙ sym agree in
+      let at_shared : changed f y w (q.shared k) ≡ at_variable q.atoms k (q.shared k) u v = changed_other f y w (q.shared k) (tree.apart k le) ∙ sym agree in
       elim (tree.ends k le) [
         | inl e ↦ (
-          ap (changed f y w) e.0 ∙ at-shared ∙ at_first q k (q.shared k) u v e.0,
+          ap (changed f y w) e.0 ∙ at_shared ∙ at_first q k (q.shared k) u v e.0,
           ap (changed f y w) e.1 ∙ changed_self f y w ∙ at_second q k y u v (λ d. tree.apart k le (sym e.0 ∙ d)),
         )
         | inr e ↦ (
           ap (changed f y w) e.0 ∙ changed_self f y w ∙ at_first q k y u v e.0,
-          ap (changed f y w) e.1 ∙ at-shared ∙ at_second q k (q.shared k) u v (λ d. tree.apart k le (sym d ∙ e.0)),
+          ap (changed f y w) e.1 ∙ at_shared ∙ at_second q k (q.shared k) u v (λ d. tree.apart k le (sym d ∙ e.0)),
         )
       ]
 

@@ -10,7 +10,7 @@ use Rattle.query.specs.declared.drafts.Draft.{Draft}
 use Rattle.automata.specs.Positions.{size}
 use Rattle.query.specs.Outcome.{rest, Eats}
 use Rattle.query.specs.Queries.{HeadTree, names, inside_text, inside_regex, AtomTree, atom_tree, atom_text, AtomsTree, one_atom, more_atoms, atoms_text, QueryTree, query_tree, query_text, IsQuery, Begins, Longest}
-use Rattle.query.specs.Viable.{start, at-atom, done, dead, go, goes, Halts}
+use Rattle.query.specs.Viable.{start, at_atom, done, dead, go, goes, Halts}
 use Rattle.query.specs.Limits.{Stored, Right, Rightly, Keeps, Rows, Over, Overs, Large, Lowest, number, inside_of}
 use Rattle.query.specs.declared.drafts.Query.{Query}
 use Rattle.query.specs.Texts.{IsTooLarge, HoldsText}
@@ -239,7 +239,7 @@ pub whole_fails : {xs : List ℕ} {s m n : Reader} {d d' : Draft} {y : ℕ} → 
 whole_fails {xs} {s} {m} {n} {y = y} i e k = judge xs n y k.went.within (k.went.text ∙ e.text ∙ i.text) k.reads.0
     (halts_under (names h ++ 58 ∷ (atoms_text a ++ 44 ∷ [])) [] (λ t. query_tree h (more_atoms a t))
     (λ t. ap (λ y. names h ++ 58 ∷ y) (split (atom_text t)) ∙ sym (append_assoc (names h) (58 ∷ (atoms_text a ++ 44 ∷ [])) (atom_text t ++ [])))
-    (λ x. ap (goes start) (append_assoc (names h) (58 ∷ (atoms_text a ++ 44 ∷ [])) x) ∙ runs_head h (58 ∷ ((atoms_text a ++ 44 ∷ []) ++ x)) ∙ ap (goes at-atom) (append_assoc (atoms_text a) (44 ∷ []) x) ∙ runs_atoms a (44 ∷ x))
+    (λ x. ap (goes start) (append_assoc (names h) (58 ∷ (atoms_text a ++ 44 ∷ [])) x) ∙ runs_head h (58 ∷ ((atoms_text a ++ 44 ∷ []) ++ x)) ∙ ap (goes at_atom) (append_assoc (atoms_text a) (44 ∷ []) x) ∙ runs_atoms a (44 ∷ x))
     (i.splits ∙ ap (λ y. names h ++ 58 ∷ y) (ap (λ y. atoms_text a ++ y) e.takes.1 ∙ sym (append_assoc (atoms_text a) (44 ∷ []) (rest m))) ∙ sym (append_assoc (names h) (58 ∷ (atoms_text a ++ 44 ∷ [])) (rest m)))
     k.reads.1)
   where

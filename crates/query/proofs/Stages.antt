@@ -5,7 +5,7 @@ use Rattle.std.proofs.lemmas.Bool.{cases_eq, le-leb}
 use Rattle.query.specs.Grammar as G
 use Rattle.query.specs.Grammar.{Layer, Kind, atom, opening, closing, sign, slash, bar, other, Tree, alternative, text, State, kind, Took, Halted, Stops, goes_on}
 use Rattle.query.specs.Queries.{Capital, HeadTree, one_name, more_names, names, Inside, nothing, filled, inside_text, AtomTree, atom_tree, atom_text, AtomsTree, one_atom, more_atoms, atoms_text, QueryTree, query_tree, query_text}
-use Rattle.query.specs.Viable.{capital, Stage, start, in_head, at-atom, at_Bracket, opened, at_second, done, dead, expects, after, lift, go, goes, Halts}
+use Rattle.query.specs.Viable.{capital, Stage, start, in_head, at_atom, at_bracket, opened, at_second, done, dead, expects, after, lift, go, goes, Halts}
 use Rattle.query.proofs.Bytes.{run_all}
 
 pub goes_append : (s : Stage) (u v : List ℕ) → goes s (u ++ v) ≡ goes (goes s u) v
@@ -80,20 +80,20 @@ opened_tree t y = at (text t) refl
 
 pub runs_head : (t : HeadTree) (x : List ℕ) → goes start (names t ++ x) ≡ goes in_head x
 runs_head (one_name b h) x = ap (λ y. goes (cond y in_head dead) x) (capital_true b h)
-runs_head (more_names t b h) x = rw append_assoc (runs_head t (b ∷ x) ∙ ap (λ y. goes (cond y in_head (cond (eqb b 58) at-atom dead)) x) (capital_true b h))
+runs_head (more_names t b h) x = rw append_assoc (runs_head t (b ∷ x) ∙ ap (λ y. goes (cond y in_head (cond (eqb b 58) at_atom dead)) x) (capital_true b h))
 
 pub runs_inside : (i : Inside) (x : List ℕ) → goes opened (inside_text i ++ 93 ∷ x) ≡ goes at_second x
 runs_inside nothing x = refl
 runs_inside (filled t) x = opened_tree t (93 ∷ x) ∙ tree_lives t (93 ∷ x)
 
-pub runs_atom : (a : AtomTree) (x : List ℕ) → goes at-atom (atom_text a ++ x) ≡ goes done x
+pub runs_atom : (a : AtomTree) (x : List ℕ) → goes at_atom (atom_text a ++ x) ≡ goes done x
 runs_atom (atom_tree u h i v k) x =
-    ap (λ y. goes (cond y at_Bracket dead) (91 ∷ ((inside_text i ++ 93 ∷ v ∷ []) ++ x))) (capital_true u h)
+    ap (λ y. goes (cond y at_bracket dead) (91 ∷ ((inside_text i ++ 93 ∷ v ∷ []) ++ x))) (capital_true u h)
     ∙ ap (goes opened) (append_assoc (inside_text i) (93 ∷ v ∷ []) x)
     ∙ runs_inside i (v ∷ x)
     ∙ ap (λ y. goes (cond y done dead) x) (capital_true v k)
 
-pub runs_atoms : (s : AtomsTree) (x : List ℕ) → goes at-atom (atoms_text s ++ x) ≡ goes done x
+pub runs_atoms : (s : AtomsTree) (x : List ℕ) → goes at_atom (atoms_text s ++ x) ≡ goes done x
 runs_atoms (one_atom a) x = runs_atom a x
 runs_atoms (more_atoms s a) x = rw append_assoc (runs_atoms s (44 ∷ (atom_text a ++ x)) ∙ runs_atom a x)
 

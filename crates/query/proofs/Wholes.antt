@@ -12,7 +12,7 @@ use Rattle.query.specs.Grammar.{alternative, text}
 use Rattle.automata.specs.Parts.{Holds}
 use Rattle.query.specs.Outcome.{rest, Outcome, Eats}
 use Rattle.query.specs.Queries.{Capital, HeadTree, one_name, more_names, names, Inside, nothing, filled, inside_text, inside_regex, AtomTree, atom_tree, AtomsTree, one_atom, query_tree}
-use Rattle.query.specs.Viable.{capital, start, in_head, at-atom, at_Bracket, opened, at_second, dead, go, goes, Halts}
+use Rattle.query.specs.Viable.{capital, start, in_head, at_atom, at_bracket, opened, at_second, dead, go, goes, Halts}
 use Rattle.query.specs.Limits.{Stored, Keeps, first_of, second_of, inside_of}
 use Rattle.query.specs.Readings.{Named, Enclosed, Atomed, Headed}
 use Rattle.query.proofs.Stages.{capital_true, runs_head, runs_inside, halts_at, halts_under, inside_open, inside_halts}
@@ -48,7 +48,7 @@ atom_unnamed {z} {a} o = record {
   went = o.went;
   reads = (
     o.reads.0,
-    halts_at at-atom (atom_tree 65 letter_a nothing 65 letter_a) [] (65 ∷ 91 ∷ 93 ∷ 65 ∷ []) (sym o.reads.1) refl refl
+    halts_at at_atom (atom_tree 65 letter_a nothing 65 letter_a) [] (65 ∷ 91 ∷ 93 ∷ 65 ∷ []) (sym o.reads.1) refl refl
         (λ b bs q. simp (not_capital b (o.reads.2 b bs (sym o.reads.1 ∙ q)))) (λ e. let k : ◌≡◌ {A = ℕ} 0 1 = cc in omega arith),
   );
 }
@@ -58,14 +58,14 @@ atom_unopened {z} {a} {b} {u} o e = record {
   went = record { within = e.within; grows = omega (arith, o.went.grows, e.takes.0); text = e.text ∙ o.went.text };
   reads = (
     refl,
-    halts_at at_Bracket (atom_tree u o.reads.0 nothing 65 letter_a) (u ∷ []) (91 ∷ 93 ∷ 65 ∷ []) (o.reads.1 ∙ ap (λ y. u ∷ y) (sym e.takes.1)) refl
-        (ap (λ y. cond y at_Bracket dead) (capital_true u o.reads.0))
+    halts_at at_bracket (atom_tree u o.reads.0 nothing 65 letter_a) (u ∷ []) (91 ∷ 93 ∷ 65 ∷ []) (o.reads.1 ∙ ap (λ y. u ∷ y) (sym e.takes.1)) refl
+        (ap (λ y. cond y at_bracket dead) (capital_true u o.reads.0))
         (λ x bs q. let n : (x ≡ 91 → ⊥) = λ h. e.takes.2 bs (sym e.takes.1 ∙ q ∙ ap (λ y. y ∷ bs) h) in grind (arith, nat_tests)) (λ e. let k : ◌≡◌ {A = ℕ} 0 1 = cc in omega arith),
   );
 }
 
-named_then : (u : ℕ) → Capital u → (x : List ℕ) → goes at-atom (u ∷ 91 ∷ x) ≡ goes opened x
-named_then u h x = ap (λ y. goes (cond y at_Bracket dead) (91 ∷ x)) (capital_true u h)
+named_then : (u : ℕ) → Capital u → (x : List ℕ) → goes at_atom (u ∷ 91 ∷ x) ≡ goes opened x
+named_then u h x = ap (λ y. goes (cond y at_bracket dead) (91 ∷ x)) (capital_true u h)
 
 pub atom_inside : {z a b n : Reader} {u y : ℕ} {m m' : Builder} → Named z a (Ok u) → Eats 91 a b true → Enclosed b n m m' (Err y) → Atomed z n (Err y)
 atom_inside {z} {a} {b} {n} {u} o e i = record {

@@ -9,7 +9,7 @@ use Rattle.automata.specs.declared.builder.Builder.{Builder}
 use Rattle.automata.specs.Parts.{Holds}
 use Rattle.query.specs.Outcome.{rest}
 use Rattle.query.specs.Queries.{Capital, Inside, inside_text, inside_regex, AtomTree, atom_text, AtomsTree, HeadTree, names, QueryTree, query_tree, query_text, IsQuery, Longest}
-use Rattle.query.specs.Viable.{Halts, start, at-atom, opened}
+use Rattle.query.specs.Viable.{Halts, start, at_atom, opened}
 use Rattle.query.specs.Limits.{Stored, Keeps, Rows, Over, Overs, Lowest, number}
 
 pub record Went (old new : Reader) : Type 0 where
@@ -27,7 +27,7 @@ pub record Enclosed (old new : Reader) (m m' : Builder) (r : Result Part ℕ) : 
 
 pub record Atomed (old new : Reader) (r : Result Atom ℕ) : Type 0 where
   pub went : Went old new
-  pub reads : MatchResult r (λ a. (t : AtomTree) × (rest old ≡ atom_text t ++ rest new) × Stored a old.at t) (λ e. (e ≡ new.at) × Halts AtomTree atom_text at-atom (rest old) (rest new))
+  pub reads : MatchResult r (λ a. (t : AtomTree) × (rest old ≡ atom_text t ++ rest new) × Stored a old.at t) (λ e. (e ≡ new.at) × Halts AtomTree atom_text at_atom (rest old) (rest new))
 
 pub record Headed (old new : Reader) (r : Result Head ℕ) : Type 0 where
   pub went : Went old new
@@ -43,7 +43,7 @@ pub record Adds (old new : Draft) (b : ℕ) (t : AtomTree) : Type 0 where
 
 pub record Claused (old new : Reader) (d d' : Draft) (r : Result Unit ℕ) : Type 0 where
   pub went : Went old new
-  pub reads : MatchResult r (λ _. (t : AtomTree) × (rest old ≡ atom_text t ++ rest new) × Adds d d' old.at t) (λ e. (e ≡ new.at) × Halts AtomTree atom_text at-atom (rest old) (rest new))
+  pub reads : MatchResult r (λ _. (t : AtomTree) × (rest old ≡ atom_text t ++ rest new) × Adds d d' old.at t) (λ e. (e ≡ new.at) × Halts AtomTree atom_text at_atom (rest old) (rest new))
 
 -- The draft, of a text read up to the place e, is that of the head h and the atoms s, the first of which stands at b.
 pub record Drafted (d : Draft) (h : HeadTree) (s : AtomsTree) (b e : ℕ) : Type 0 where

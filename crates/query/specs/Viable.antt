@@ -5,7 +5,7 @@ use Rattle.query.specs.Grammar.{State, kind}
 
 -- Where a text stands. Inside square brackets the machine is that of expressions.
 pub data Stage : Type 0 where
-  start in_head at-atom at_Bracket opened at_second done dead : Stage
+  start in_head at_atom at_bracket opened at_second done dead : Stage
   expects after : ℕ → Stage
 
 abbrev pub lift : State → Stage
@@ -18,12 +18,12 @@ capital b = nat_le 65 b && nat_le b 90
 
 abbrev pub go : Stage → ℕ → Stage
 go start b = cond (capital b) in_head dead
-go in_head b = cond (capital b) in_head (cond (b == 58) at-atom dead)
-go at-atom b = cond (capital b) at_Bracket dead
-go at_Bracket b = cond (b == 91) opened dead
+go in_head b = cond (capital b) in_head (cond (b == 58) at_atom dead)
+go at_atom b = cond (capital b) at_bracket dead
+go at_bracket b = cond (b == 91) opened dead
 go opened b = cond (b == 93) at_second (lift (G.move (G.expects 0) (kind b)))
 go at_second b = cond (capital b) done dead
-go done b = cond (b == 44) at-atom dead
+go done b = cond (b == 44) at_atom dead
 go dead b = dead
 go (expects d) b = lift (G.move (G.expects d) (kind b))
 go (after zero) b = cond (b == 93) at_second (lift (G.move (G.after 0) (kind b)))
