@@ -1,7 +1,7 @@
 #!/usr/bin/env python3
 """Brings the repository's own definitions and lemmas to one spelling: words in snake case, types in camel case.
 
-usage: python3 tools/respell.py [--list]     at the top, once, after the toolchain's own script
+usage: python3 tools/respell.py [--list]     at the top, after the toolchain's own script; where nothing is left to turn it changes nothing
 
 A name is ours if a file of specs/ or proofs/ declares it, and it is no goal that the check named. With --list it only prints old and new names.
 It stops where two names would fall together in one file."""
@@ -30,7 +30,7 @@ OTHER = {
     "put-mid": "put_inside",
 }
 
-# what the first run left: names of a line with several, names that a proof binds, and one that the toolchain's script turned into two styles
+# what the first run left: names of a line with several, names that a proof binds, and two that the toolchain's script turned into two styles
 AGAIN = {
     "at-atom": "at_atom",
     "at-fresh": "at_fresh",
@@ -39,6 +39,7 @@ AGAIN = {
     "is-new": "is_new",
     "is-to": "is_to",
     "at_Bracket": "at_bracket",
+    "Goes_on": "GoesOn",
 }
 LEFT = re.compile(r"(?<![\w'.-])(?:" + "|".join(AGAIN) + r")(?![\w'-])")
 
@@ -110,7 +111,7 @@ def main():
     if bad:
         print("\n".join(bad))
         return 1
-    for path in files((".antt",)):
+    for path in files((".antt", ".rt")):
         text = changes.get(path) or open(path, encoding="utf-8").read()
         if LEFT.search(text):
             changes[path] = LEFT.sub(lambda m: AGAIN[m[0]], text)

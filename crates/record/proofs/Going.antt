@@ -32,7 +32,7 @@ use Rattle.record.specs.Calls as calls
 use Rattle.record.specs.declared.records.Listing.{Listing}
 use Rattle.record.specs.declared.records.Opened.{Opened}
 use Rattle.record.specs.Calls.{Calibrated, Calibrates, Fits, Fitting, Gave, Unchanged, atoms, head, last_of, noted_of}
-use Rattle.record.specs.Listing.{Notes, Lists, Goes_on, Begins}
+use Rattle.record.specs.Listing.{Notes, Lists, GoesOn, Begins}
 use Rattle.record.proofs.Answering.{answers_from, answers_to}
 use Rattle.record.proofs.Fitness.{head_long}
 
@@ -133,7 +133,7 @@ moved g xs os os' q q' s ep en l notes nexts =
       whole = law_from q' xs w.0 g s (en ∙ l.nodes) w.1 os' w.2;
     }
 
-pub goes_on : (q : Query) (s out : List ℕ) (r : Result Bool Fault) (q' : Query) (out' : List ℕ) → calls.Nexts q s out r q' out' → Goes_on q s r q'
+pub goes_on : (q : Query) (s out : List ℕ) (r : Result Bool Fault) (q' : Query) (out' : List ℕ) → calls.Nexts q s out r q' out' → GoesOn q s r q'
 goes_on q s out (Ok true) q' out' n g xs os l =
     let h = length (head q) in
     let tuple : last_of q'.last ≡ n.tuple = ap last_of n.last in

@@ -3,7 +3,7 @@
 --     after r o os            the outcomes after a next that answered r, where the record then notes o
 --     Lists g xs os q s       the record q and the workspace s stand in a listing of the text xs over the graph g, as it was at the calibrate, after the outcomes os
 --                             each table keeps exactly the pairs that satisfying assignments use, and the outcomes list the answers whole
---     Goes_on q s r q'        a next goes on with whatever listing the record and the workspace stand in
+--     GoesOn q s r q'        a next goes on with whatever listing the record and the workspace stand in
 --     Begins g q s            a calibrate begins a listing of each text that the record's query stands for
 use Rattle.std.specs.Prelude.{◌≡◌, ℕ, ◌<◌, Bool, true, false, ◌↔◌, List, [], ◌∷◌, length, Some, None, Ok, Err, Option, Result}
 use Rattle.bits.specs.Rows.{width}
@@ -36,8 +36,8 @@ pub record Lists (g : Graph) (xs : List ℕ) (os : List Outcome) (q : Query) (s 
   pub nexts : Nexts (Fitting q s) (length (head q)) os
   pub whole : Whole (Answer g (meaning accepted.head accepted.atoms)) (length (names accepted.head)) os
 
-abbrev pub Goes_on : Query → List ℕ → Result Bool Fault → Query → Type 0
-Goes_on q s r q' = (g : Graph) (xs : List ℕ) (os : List Outcome) → Lists g xs os q s → Lists g xs (after r q'.last os) q' s
+abbrev pub GoesOn : Query → List ℕ → Result Bool Fault → Query → Type 0
+GoesOn q s r q' = (g : Graph) (xs : List ℕ) (os : List Outcome) → Lists g xs os q s → Lists g xs (after r q'.last os) q' s
 
 abbrev pub Begins : Graph → Query → List ℕ → Type 0
 Begins g q s = (xs : List ℕ) → Accepted xs q.parsed → Lists g xs [] q s

@@ -2,7 +2,7 @@ ghost use Rattle.std.specs.Prelude.{◌≡◌, ◌≤◌, true, length, OnOk};
 ghost use Rattle.meaning.specs.Tuples.{Lowest, Within};
 ghost use Rattle.bits.specs.Rows.{width as words_of};
 ghost use Rattle.record.specs.Calls.{Calibrates, Fitting, Nexts, head, last_of, noted_of};
-ghost use Rattle.record.specs.Listing.{Begins, Goes_on};
+ghost use Rattle.record.specs.Listing.{Begins, GoesOn};
 ghost use Rattle.record.specs.Records.{Newly, new_text};
 ghost use Rattle.record.specs.Calls.{needed as words-needed};
 
@@ -126,7 +126,7 @@ pub(crate) fn next(
     answer: &mut [NodeId],
 ) -> Result<bool, Fault>
     ensures answer { Nexts query.old words.now answer.old result query.new answer.new }
-    ensures listing { Goes_on query.old words.now result query.new }
+    ensures listing { GoesOn query.old words.now result query.new }
 {
     advance(query, words, answer)
 }

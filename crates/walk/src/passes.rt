@@ -1,7 +1,7 @@
 ghost use Rattle.std.specs.Prelude.{◌≡◌, ℕ, ◌+◌, ◌<◌, false, ◌↔◌, List, length, take, drop, if◌then◌else◌, slice_index};
 ghost use Rattle.meaning.specs.Paths.{Path};
 ghost use Rattle.walk.specs.Moves.{Entering, In, Leads, Reaches};
-ghost use Rattle.walk.specs.Walked.{Falls, Goes_on, Seeded};
+ghost use Rattle.walk.specs.Walked.{Falls, GoesOn, Seeded};
 
 use super::marks::{mark, step};
 use automata::Automaton;
@@ -19,7 +19,7 @@ fn turn<G: Graph>(
     requires below { node < (G.Graph.graph graph.now).nodes }
     requires scratch { length z.old ≡ (G.Graph.graph graph.now).nodes + (G.Graph.graph graph.now).nodes }
     requires masks { Entering (G.Graph.graph graph.now).labels auto.now masks.now }
-    ensures on { Goes_on (G.Graph.graph graph.now).has (G.Graph.graph graph.now).labels auto.now (G.Graph.graph graph.now).nodes z.old z.new }
+    ensures on { GoesOn (G.Graph.graph graph.now).has (G.Graph.graph graph.now).labels auto.now (G.Graph.graph graph.now).nodes z.old z.new }
     ensures less { Falls (G.Graph.graph graph.now).nodes z.old z.new (if result then 1 else 0) }
     ensures none { result ≡ false → (z.new ≡ z.old) × (slice_index (drop (G.Graph.graph graph.now).nodes z.old) node ≡ 0) }
 {
@@ -38,7 +38,7 @@ fn turn<G: Graph>(
 fn pass<G: Graph>(graph: &G, auto: &Automaton, masks: &[u64; 26], z: &mut [u64]) -> bool
     requires scratch { length z.old ≡ (G.Graph.graph graph.now).nodes + (G.Graph.graph graph.now).nodes }
     requires masks { Entering (G.Graph.graph graph.now).labels auto.now masks.now }
-    ensures on { Goes_on (G.Graph.graph graph.now).has (G.Graph.graph graph.now).labels auto.now (G.Graph.graph graph.now).nodes z.old z.new }
+    ensures on { GoesOn (G.Graph.graph graph.now).has (G.Graph.graph graph.now).labels auto.now (G.Graph.graph graph.now).nodes z.old z.new }
     ensures less { Falls (G.Graph.graph graph.now).nodes z.old z.new (if result then 1 else 0) }
     ensures none { result ≡ false → (v : ℕ) → v < (G.Graph.graph graph.now).nodes → slice_index (drop (G.Graph.graph graph.now).nodes z.new) v ≡ 0 }
 {
