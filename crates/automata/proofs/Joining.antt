@@ -9,8 +9,9 @@ use Rattle.automata.specs.declared.symbols.Symbol.{Symbol}
 use Rattle.automata.specs.declared.symbols.Symbol.TheVariants.{Any}
 use Rattle.automata.specs.Parts.{meant, followed, beside, repeated, Built, Holds, Kept}
 use Rattle.automata.specs.Positions.{size, In, Follow, Reads}
-use Rattle.automata.specs.Sets.{Has, Linked}
-use Rattle.automata.proofs.Links.{has_or, has_zero}
+use Rattle.bits.specs.Bits.{Has}
+use Rattle.bits.proofs.Sets.{has_or, has_zero}
+use Rattle.automata.specs.Sets.{Linked}
 use Rattle.automata.proofs.Positions.{last_in, follow_in, reads_in}
 
 -- A union that is taken only where a test says so.

@@ -2,22 +2,10 @@
 use Rattle.std.proofs.Common.{◌≡◌, ℕ, ◌+◌, ◌%◌, ◌<◌, Bool, true, false, cond, eqb, ◌⊎◌, ◌↔◌, List, length, get_or, set, sym, refl, ap, ◌∙◌, subst, inl, inr, mod-eq_of_lt, arith, get_or-set_other, get_or-set_same}
 use lib.Bits.{bit_or}
 use Rattle.std.proofs.lemmas.Bool.{cases_eq, or_cases, or_left, or_right, eqb-true, eq-eqb, both_ways}
-use Rattle.bits.specs.Bits.{bit}
-use Rattle.bits.proofs.Laws.{bit-or, bit_zero}
-use Rattle.automata.specs.Sets.{Has, Linked}
-
-pub has_or : (a b p : ℕ) → Has (bit_or a b) p ↔ (Has a p ⊎ Has b p)
-has_or a b p = (
-  (λ h. or_cases (bit a p) (bit b p) (sym (bit-or a b p) ∙ h)),
-  elim [ inl h ↦ bit-or a b p ∙ or_left (bit a p) (bit b p) h | inr h ↦ bit-or a b p ∙ or_right (bit a p) (bit b p) h ],
-)
-
-pub has_zero : (p : ℕ) → Has 0 p → ⊥
-has_zero p h = both_ways (bit 0 p) (bit_zero p) h
-
--- the set of one position
-pub has_only : (m b p : ℕ) → bit m p ≡ eqb b p → Has m p ↔ (p ≡ b)
-has_only m b p e = ((λ h. sym (eqb-true b p (sym e ∙ h))), λ h. e ∙ eq-eqb b p (sym h))
+use Rattle.bits.specs.Bits.{bit, Has}
+use Rattle.bits.proofs.Laws.{bit_zero}
+use Rattle.bits.proofs.Sets.{has_only, has_or}
+use Rattle.automata.specs.Sets.{Linked}
 
 pub linked_none : (old : List ℕ) (last first : ℕ) → Linked old old 0 last first
 linked_none old last first x q = ((λ h. inl h), elim [ inl h ↦ h | inr h ↦ absurd (let k = h.0 in omega arith) ])

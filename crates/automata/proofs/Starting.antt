@@ -12,8 +12,8 @@ use Rattle.automata.specs.declared.symbols.Symbol.TheVariants.{Any}
 use Rattle.automata.specs.Machines.{Goes, Accepts}
 use Rattle.automata.specs.Parts.{meant, Built}
 use Rattle.automata.specs.Positions.{size, In, Reads, Run, Accept}
-use Rattle.automata.specs.Sets.{Has}
-use Rattle.automata.proofs.Links.{has_or, has_only}
+use Rattle.bits.specs.Bits.{Has}
+use Rattle.bits.proofs.Sets.{has_or, has_only}
 use Rattle.automata.proofs.Positions.{first_in, last_in, follow_in, accepts_words}
 
 -- a has the positions of m, a start state that leads to the first ones, and accepts as the part f says

@@ -4,12 +4,12 @@
 --     Accepts n m w      the word w leads from the start to a state that accepts
 --     Recognizes m r     m accepts exactly the words of r, for every number of labels; it has as many positions as r
 use Rattle.std.specs.Prelude.{◌≡◌, ℕ, ◌<◌, ◌≤◌, ◌↔◌, List, [], ◌∷◌, slice_index, slice_index_or}
+use Rattle.bits.specs.Bits.{Has}
 use Rattle.meaning.specs.Words.{Regex, Lang, Matches}
 use Rattle.automata.specs.declared.machine.Automaton.{Automaton}
 use Rattle.automata.specs.declared.symbols.Symbol.TheVariants.{Any}
 use Rattle.automata.specs.Parts.{meant}
 use Rattle.automata.specs.Positions.{size}
-use Rattle.automata.specs.Sets.{Has}
 
 abbrev pub Steps : ℕ → Automaton → ℕ → ℕ → ℕ → Type 0
 Steps n m p a q = (q < 64) × Has (slice_index m.follow p) q × Matches n (meant (slice_index_or m.symbols q Any)) a

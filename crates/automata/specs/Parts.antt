@@ -5,6 +5,7 @@
 --     Holds m f b r         and these positions are the last that m has
 --     Kept k old new        the rows below k are as they were
 use Rattle.std.specs.Prelude.{◌≡◌, ℕ, ◌+◌, ◌<◌, true, cond, ◌&&◌, ◌||◌, ◌↔◌, bit_or, slice_index, slice_index_or}
+use Rattle.bits.specs.Bits.{Has}
 use Rattle.meaning.specs.Words as words
 use Rattle.meaning.specs.Words.{Regex, Matches}
 use Rattle.automata.specs.declared.builder.Builder.{Builder}
@@ -12,7 +13,6 @@ use Rattle.automata.specs.declared.builder.Part.{Part}
 use Rattle.automata.specs.declared.symbols.Symbol.{Symbol}
 use Rattle.automata.specs.declared.symbols.Symbol.TheVariants.{Label, Any}
 use Rattle.automata.specs.Positions.{size, In, Null, First, Last, Follow, Reads}
-use Rattle.automata.specs.Sets.{Has}
 
 abbrev pub meant : Symbol → words.Symbol
 meant (Label a) = words.label a

@@ -107,9 +107,9 @@ impl Builder {
         ensures symbols { self.new.symbols ≡ self.old.symbols }
         ensures linked { Linked self.old.follow self.new.follow 64 last first }
     {
-        for p in 0..64 {
+        for (p, row) in self.follow.iter_mut().enumerate() {
             if has(last, p) {
-                self.follow[p] |= first;
+                *row |= first;
             }
         }
     }

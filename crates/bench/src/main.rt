@@ -7,7 +7,7 @@ mod filling;
 
 use automata::Automaton;
 use filling::{count, load, needed, time};
-use graph::{Edge, EdgeList, Graph, Sizes, SmallSizes, SmallTable};
+use graph::{Edge, EdgeList, Graph, ListSizes, SmallTable, TableSizes};
 use query::read_expression;
 use std::io::Read;
 use std::{env, io};
@@ -21,9 +21,9 @@ fn main(rt: HostRuntime) -> io::Result<()> {
     let Some(text) = args.next() else {
         return println!(rt; "usage: bench EXPRESSION [REPETITIONS] < FILE");
     };
-    let times: u32 = match args.next() {
-        Some(word) => word.parse().unwrap_or(0),
-        None => 0,
+    let times: Option<u32> = match args.next() {
+        Some(word) => word.parse().ok(),
+        None => None,
     };
     match read_expression(text.as_bytes()) {
         Ok(automaton) => run(rt, bytes.as_slice(), &automaton, times),
@@ -32,13 +32,13 @@ fn main(rt: HostRuntime) -> io::Result<()> {
 }
 
 // Runs on each kind of graph that has room for the file's nodes.
-fn run(rt: HostRuntime, bytes: &[u8], automaton: &Automaton, times: u32) -> io::Result<()> {
+fn run(rt: HostRuntime, bytes: &[u8], automaton: &Automaton, times: Option<u32>) -> io::Result<()> {
     let heap = rt.alloc();
     let mut reader = Reader::new(bytes);
     let Ok(Some(Record::Sizes(nodes, labels))) = reader.next() else {
         return println!(rt; "the file does not begin with its sizes");
     };
-    let Ok(sizes) = Sizes::new(nodes, labels) else {
+    let Ok(sizes) = ListSizes::new(nodes, labels) else {
         return println!(rt; "the sizes are out of range");
     };
     let mut memory = vec![in heap; Edge {
@@ -49,7 +49,7 @@ fn run(rt: HostRuntime, bytes: &[u8], automaton: &Automaton, times: u32) -> io::
     let mut list = EdgeList::new(sizes, memory.as_mut_slice());
     load(&mut reader, &mut list);
     report(rt, "edge list", list, automaton, times)?;
-    let Ok(sizes) = SmallSizes::new(nodes, labels) else {
+    let Ok(sizes) = TableSizes::new(nodes, labels) else {
         return Ok(());
     };
     let mut reader = Reader::new(bytes);
@@ -65,7 +65,7 @@ fn report<G: Graph + Drop>(
     kind: &str,
     graph: G,
     automaton: &Automaton,
-    times: u32,
+    times: Option<u32>,
 ) -> io::Result<()> {
     let mut words = vec![in rt.alloc(); 0; needed(&graph)]?;
     let (graph, effort) = count(graph, automaton, words.as_mut_slice());
@@ -75,8 +75,11 @@ fn report<G: Graph + Drop>(
             effort.pairs, effort.questions
         )?;
     }
-    if let Some(spent) = time(&rt, &graph, automaton, words.as_mut_slice(), times)? {
-        println!(rt; "{kind}: {} ns a table", spent.as_nanos())?;
+    let Some(times) = times else {
+        return Ok(());
+    };
+    match time(&rt, &graph, automaton, words.as_mut_slice(), times)? {
+        Some(spent) => println!(rt; "{kind}: {} ns a table", spent.as_nanos()),
+        None => Ok(()),
     }
-    Ok(())
 }

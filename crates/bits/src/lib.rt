@@ -2,8 +2,12 @@
 // No other code divides by 64.
 #![tactic(auto)]
 
+mod layout;
+mod members;
 mod rows;
 mod words;
 
+pub use layout::Rows;
+pub use members::Members;
 pub use rows::{clear, has_some, narrow, set, test, widen, width};
 pub use words::{cleared, has, lowest, marked, without_lowest};

@@ -1,7 +1,8 @@
-ghost use Rattle.std.specs.Prelude.{◌≡◌, ◌+◌, ◌/◌, ◌<◌, ◌≤◌, length, Decides};
+ghost use Rattle.std.specs.Prelude.{◌≡◌, ℕ, ◌+◌, ◌/◌, ◌<◌, ◌≤◌, length, slice_index, Decides};
 ghost use Rattle.bits.specs.Rows.{Cleared, Narrowed, RowSet, SomeBit, Widened, row_bit};
 ghost use Rattle.bits.specs.Rows.{width as words_of};
 
+use super::layout::Rows;
 use super::words::{has, marked};
 
 // How many words a row of so many bits takes.
@@ -9,6 +10,19 @@ pub fn width(bits: usize) -> usize
     ensures { result ≡ words_of bits }
 {
     bits.div_ceil(64)
+}
+
+impl Rows {
+    // The rows of a table of pairs of so many nodes.
+    pub fn of(nodes: usize) -> Rows
+        ensures count { result.count ≡ nodes }
+        ensures width { result.width ≡ words_of nodes }
+    {
+        Rows {
+            count: nodes,
+            width: width(nodes),
+        }
+    }
 }
 
 // Whether bit `i` of the row that begins at `start` is set.
@@ -33,9 +47,7 @@ pub fn clear(words: &mut [u64], start: usize, count: usize)
     requires { start + count ≤ length words.old }
     ensures { Cleared words.old words.new start count }
 {
-    for i in start..start + count {
-        words[i] = 0;
-    }
+    words[start..start + count].fill(0);
 }
 
 // Whether some bit of the row of `count` words that begins at `start` is set.
@@ -43,12 +55,18 @@ pub fn has_some(words: &[u64], start: usize, count: usize) -> bool
     requires { start + count ≤ length words.now }
     ensures { Decides result (SomeBit words.now start count) }
 {
-    for i in start..start + count {
-        if words[i] != 0 {
-            return true;
-        }
+    words[start..start + count].iter().any(|word| *word != 0)
+}
+
+// Changes each word of `to` by the word of `from` at its place.
+fn update<F: Fn(u64, u64) -> u64>(to: &mut [u64], from: &[u64], f: F)
+    requires long { length to.old ≤ length from.now }
+    requires total { F.IsAlwaysCallable f }
+    ensures { (k : ℕ) → k < length to.old → F.post f (slice_index to.old k) (slice_index from.now k) (slice_index to.new k) }
+{
+    for (i, word) in to.iter_mut().enumerate() {
+        *word = f(*word, from[i]);
     }
-    false
 }
 
 // Keeps in the row at `row` the bits that the row at `mask` has. Both have `count` words, and the first stands before the second.
@@ -57,9 +75,8 @@ pub fn narrow(words: &mut [u64], row: usize, mask: usize, count: usize)
     requires room { mask + count ≤ length words.old }
     ensures { Narrowed words.old words.new row mask count }
 {
-    for i in 0..count {
-        words[row + i] &= words[mask + i];
-    }
+    let (low, high) = words.split_at_mut(mask);
+    update(&mut low[row..row + count], &high[..count], |a, b| a & b);
 }
 
 // Adds to the row at `mask` the bits of the row at `row`. Both have `count` words, and the second stands before the first.
@@ -68,7 +85,6 @@ pub fn widen(words: &mut [u64], row: usize, mask: usize, count: usize)
     requires room { mask + count ≤ length words.old }
     ensures { Widened words.old words.new row mask count }
 {
-    for i in 0..count {
-        words[mask + i] |= words[row + i];
-    }
+    let (low, high) = words.split_at_mut(mask);
+    update(&mut high[..count], &low[row..row + count], |a, b| a | b);
 }

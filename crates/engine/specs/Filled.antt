@@ -21,7 +21,7 @@ use Rattle.parse.specs.Shaping.{no_atom, pair}
 
 abbrev pub Arrangement : Parsed → Type 0
 Arrangement p = (e : List Ends) → length e ≡ 8 → ((d : Ends) (i : ℕ) → i < 8 → slice_index_or e i d ≡ pair (slice_index_or p.query.atoms i no_atom))
-    → (x : ℕ) × Ordered (of (take p.query.count e)) (length (take p.query.count e)) x (ranks p.order.at p.order.rank p.order.parent p.order.shared p.order.fresh)
+    → (x : ℕ) × Ordered (of (take p.query.count e)) (length (take p.query.count e)) x (ranks p.order)
 
 pub record Raw (g : Graph) (atoms : List Atom) (m : ℕ) (old new : List ℕ) (i : ℕ) : Type 0 where
   pub pairs : (z : Atom) (c : ℕ) (r : Regex) → c < i → Recognizes (get_or atoms c z).automaton r → size r ≤ 63 → (u v : ℕ) → u < g.nodes → v < width g.nodes * 64

@@ -4,7 +4,7 @@ ghost use Rattle.parse.specs.Meanings.{meaning};
 ghost use Rattle.parse.specs.Parsing.{Accepted};
 ghost use Rattle.engine.specs.Filled.{Arrangement, Filled, Raw};
 
-use bits::width;
+use bits::{Rows, width};
 use graph::Graph;
 use joins::reduce_all;
 use parse::{Parsed, ends};
@@ -20,6 +20,7 @@ fn fill_each<G: Graph>(graph: &G, query: &Query, words: &mut [u64])
     let n = graph.node_count() as usize;
     let size = n * width(n);
     let scratch = query.count * size;
+    // By number: over the slice of the atoms the proof is not told how long an array of structs is.
     for c in 0..query.count {
         let atom = query.atoms[c];
         fill_table(graph, &atom.automaton, words, c * size, scratch);
@@ -41,7 +42,6 @@ pub fn fill_tables<G: Graph>(graph: &G, parsed: &Parsed, words: &mut [u64])
         words,
         &pairs[..parsed.query.count],
         &parsed.order,
-        n,
-        width(n),
+        Rows::of(n),
     );
 }

@@ -1,8 +1,11 @@
 -- The edges in the first places of a list, after a write to it.
-use Rattle.std.proofs.Common.{◌≡◌, ℕ, zero, suc, ◌+◌, ◌-◌, ◌<◌, ◌≤◌, Bool, true, false, cond, not, ◌&&◌, ◌||◌, ◌≢◌, List, length, get_or, set, Decides, sym, refl, ap, ◌∙◌, subst, ⊎_elim, add-one, arith}
+use Rattle.std.proofs.Common.{◌≡◌, ℕ, zero, suc, ◌+◌, ◌-◌, ◌<◌, ◌≤◌, Bool, true, false, cond, not, ◌&&◌, ◌||◌, ◌≢◌, List, length, get_or, set, take, Decides, Option, Some, None, sym, refl, ap, ◌∙◌, subst, ⊎_elim, add-one, arith}
 use Rattle.std.proofs.lemmas.Bool.{cases_eq, cases_lt, cases_Bool, both_ways}
 use Rattle.std.proofs.lemmas.List.{get_or-set_same, get_or-set_other}
 use Rattle.std.proofs.lemmas.Bool.Decides.{same_from_decides, Decides-like, Decides-not, Decides-and, Decides-below_or}
+use Rattle.std.proofs.lemmas.Grind.{common_steps}
+use Rattle.std.specs.List.{AllWithin, HoldsAt}
+use Rattle.std.specs.Option.{MatchOption}
 use Rattle.graph.specs.declared.edges.Edge.{Edge}
 use Rattle.graph.specs.Edges.{edge, blank, is, among, holds}
 use Rattle.graph.proofs.Same.{decides_is, is_other}
@@ -147,3 +150,29 @@ pub among_skip : (xs : List Edge) (i : ℕ) (e : Edge) → (get_or xs i blank �
 among_skip xs i e ne f =
     let off = is_other (get_or xs i blank) e.from e.label e.to ne in
     let step : holds (among xs (suc i)) e ≡ false = cc in rw add-one step
+
+-- reads of the first n places
+pub length_taken : (xs : List Edge) (n : ℕ) → n ≤ length xs → length (take n xs) ≡ n
+length_taken xs n l = grind (arith, common_steps)
+
+pub taken_below : (xs : List Edge) (n k : ℕ) → n ≤ length xs → k < n → k < length (take n xs)
+taken_below xs n k l h = grind (arith, common_steps)
+
+pub below_taken : (xs : List Edge) (n k : ℕ) → n ≤ length xs → k < length (take n xs) → k < n
+below_taken xs n k l h = grind (arith, common_steps)
+
+pub taken_is : (xs : List Edge) (n k : ℕ) → n ≤ length xs → k < n → get_or (take n xs) k blank ≡ get_or xs k blank
+taken_is xs n k l h = grind (arith, common_steps)
+
+-- the first of the first n places that holds the edge, from what `position` says
+pub placed_from_first : (xs : List Edge) (n : ℕ) (e : Edge) (r : Option ℕ) → n ≤ length xs
+    → MatchOption r (AllWithin (λ x. x ≡ e → ⊥) (take n xs) 0 (length (take n xs))) (λ i. (i < length (take n xs)) × HoldsAt (λ x. x ≡ e) (take n xs) i × AllWithin (λ x. x ≡ e → ⊥) (take n xs) 0 i)
+    → elim r as (λ x. Type 0) [ None ↦ holds (among xs n) e ≡ false | Some i ↦ (i < n) × (get_or xs i blank ≡ e) ]
+placed_from_first xs n e None l h =
+    ⊎_elim
+    (λ (t : holds (among xs n) e ≡ true).
+    let s = (decides_among xs n e).0 t in
+    absurd (h s.0 blank (omega arith) (taken_below xs n s.0 l s.1) (taken_is xs n s.0 l s.1 ∙ s.2)))
+    (λ f. f)
+    (cases_Bool (holds (among xs n) e))
+placed_from_first xs n e (Some i) l h = let low = below_taken xs n i l h.0 in (low, sym (taken_is xs n i l low) ∙ h.1 blank)

@@ -7,3 +7,4 @@ pub mod Memory
 pub mod Lists
 pub mod Rows
 pub mod Tables
+pub mod Successors

@@ -7,11 +7,11 @@ use Rattle.graph.specs.Edges.{among, edge}
 
 abbrev pub graph_of_list : EdgeList → Graph
 graph_of_list m = record {
-  nodes = m.nodes;
-  labels = m.labels;
+  nodes = m.sizes.nodes;
+  labels = m.sizes.labels;
   capacity = length m.slots.now;
   has = among m.slots.now m.len;
-  sized = m.sized;
+  sized = m.sizes.sized;
   legal = λ u a v h. m.legal (edge u a v) h;
   fits = let count = m.counted in let within = m.within in omega arith;
 }

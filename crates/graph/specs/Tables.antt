@@ -9,14 +9,14 @@ use Rattle.graph.specs.Rows.{in_table}
 
 abbrev pub graph_of_table : SmallTable → Graph
 graph_of_table t = record {
-  nodes = t.nodes;
-  labels = t.labels;
-  capacity = t.nodes * t.nodes * t.labels;
-  has = in_table t.nodes t.labels t.words;
-  sized = let s = t.sized in (s.0, omega arith, s.2, s.3);
+  nodes = t.sizes.nodes;
+  labels = t.sizes.labels;
+  capacity = t.sizes.nodes * t.sizes.nodes * t.sizes.labels;
+  has = in_table t.sizes.nodes t.sizes.labels t.words;
+  sized = let s = t.sizes.sized in (s.0, omega arith, s.2, s.3);
   legal = λ u a v h.
       let p = and_parts _ _ (and_parts _ _ h).0 in
       let r = and_parts _ _ p.1 in
-      (ltb-true u t.nodes p.0, ltb-true a t.labels r.0, ltb-true v t.nodes r.1);
-  fits = count_bound t.nodes t.labels (in_table t.nodes t.labels t.words);
+      (ltb-true u t.sizes.nodes p.0, ltb-true a t.sizes.labels r.0, ltb-true v t.sizes.nodes r.1);
+  fits = count_bound t.sizes.nodes t.sizes.labels (in_table t.sizes.nodes t.sizes.labels t.words);
 }

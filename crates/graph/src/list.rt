@@ -1,50 +1,21 @@
-ghost use Rattle.std.specs.Prelude.{◌≡◌, ℕ, ◌+◌, ◌-◌, ◌<◌, ◌≤◌, true, false, length, Some, None, Ok, Err, nat_le, slice_index_or, slice_set};
-ghost use Rattle.meaning.specs.Graphs.{Within, Legal, count};
-ghost use Rattle.graph.specs.Calls.{BadSizes};
+ghost use Rattle.std.specs.Prelude.{◌≡◌, ℕ, ◌+◌, ◌-◌, ◌<◌, ◌≤◌, true, false, length, Some, None, nat_le, slice_index_or, slice_set};
+ghost use Rattle.meaning.specs.Graphs.{Legal, count};
 ghost use Rattle.graph.specs.Edges.{among, blank, holds};
 ghost use Rattle.graph.specs.declared.edges.Edge.{Edge};
 
 use super::edges::Edge;
-use super::outcomes::SizeFault;
-use meaning::{LabelId, NodeId};
-
-// Checked sizes of an edge list.
-#[derive(Clone, Copy)]
-pub struct Sizes {
-    pub(crate) nodes: NodeId,
-    pub(crate) labels: LabelId,
-    ghost sized: { Within 1024 nodes labels },
-}
-
-impl Sizes {
-    pub fn new(nodes: u16, labels: u16) -> Result<Sizes, SizeFault>
-        ensures { elim result [ Ok s ↦ (s.nodes ≡ nodes) × (s.labels ≡ labels) | Err f ↦ BadSizes 1024 nodes labels f ] }
-    {
-        if nodes < 1 || nodes > 1024 {
-            return Err(SizeFault::Nodes);
-        }
-        if labels < 1 || labels > 26 {
-            return Err(SizeFault::Labels);
-        }
-        Ok(Sizes {
-            nodes,
-            labels: labels as LabelId,
-        })
-    }
-}
+use super::sizes::ListSizes;
 
 // A graph that keeps its edges in the first places of the caller's memory, and has room for as many as that memory has places.
 #[derive(Drop)]
 pub struct EdgeList<'a> {
     pub(crate) slots: &'a mut [Edge],
     pub(crate) len: usize,
-    pub(crate) nodes: NodeId,
-    pub(crate) labels: LabelId,
-    ghost sized: { Within 1024 nodes labels },
+    pub(crate) sizes: ListSizes,
     ghost within: { len ≤ length slots.now },
-    ghost legal: { (e : Edge) → holds (among slots.now len) e ≡ true → Legal nodes labels e.from e.label e.to },
+    ghost legal: { (e : Edge) → holds (among slots.now len) e ≡ true → Legal sizes.nodes sizes.labels e.from e.label e.to },
     ghost distinct: { (i : ℕ) → i < len → holds (among slots.now i) (slice_index_or slots.now i blank) ≡ false },
-    ghost counted: { count nodes labels (among slots.now len) ≡ len },
+    ghost counted: { count sizes.nodes sizes.labels (among slots.now len) ≡ len },
 }
 
 impl<'a> EdgeList<'a> {
@@ -52,13 +23,7 @@ impl<'a> EdgeList<'a> {
     pub(crate) fn place(&self, e: Edge) -> Option<usize>
         ensures { elim result [ None ↦ holds (among self.now.slots.now self.now.len) e ≡ false | Some i ↦ (i < self.now.len) × (slice_index_or self.now.slots.now i blank ≡ e) ] }
     {
-        for i in 0..self.len {
-            let x = self.slots[i];
-            if x == e {
-                return Some(i);
-            }
-        }
-        None
+        self.slots[..self.len].iter().position(|x| *x == e)
     }
 
     // Whether every place holds an edge.
@@ -71,12 +36,11 @@ impl<'a> EdgeList<'a> {
     // Writes a new edge into the next place.
     pub(crate) fn append(&mut self, e: Edge)
         requires room { self.old.len < length self.old.slots.now }
-        requires legal { Legal self.old.nodes self.old.labels e.from e.label e.to }
+        requires legal { Legal self.old.sizes.nodes self.old.sizes.labels e.from e.label e.to }
         requires new { holds (among self.old.slots.now self.old.len) e ≡ false }
         ensures slots { self.new.slots.now ≡ slice_set self.old.slots.now self.old.len e }
         ensures len { self.new.len ≡ self.old.len + 1 }
-        ensures nodes { self.new.nodes ≡ self.old.nodes }
-        ensures labels { self.new.labels ≡ self.old.labels }
+        ensures sizes { self.new.sizes ≡ self.old.sizes }
         ensures lender { self.new.slots.ghost_name ≡ self.old.slots.ghost_name }
     {
         self.slots[self.len] = e;
@@ -88,8 +52,7 @@ impl<'a> EdgeList<'a> {
         requires { i < self.old.len }
         ensures slots { self.new.slots.now ≡ slice_set self.old.slots.now i (slice_index_or self.old.slots.now (self.old.len - 1) blank) }
         ensures len { self.new.len ≡ self.old.len - 1 }
-        ensures nodes { self.new.nodes ≡ self.old.nodes }
-        ensures labels { self.new.labels ≡ self.old.labels }
+        ensures sizes { self.new.sizes ≡ self.old.sizes }
         ensures lender { self.new.slots.ghost_name ≡ self.old.slots.ghost_name }
     {
         let last = self.slots[self.len - 1];

@@ -7,13 +7,14 @@ ghost use Rattle.graph.specs.Memory.{PutIn, StruckFrom};
 
 use super::edges::Edge;
 use super::interface::{Graph, check_edge};
-use super::list::{EdgeList, Sizes};
+use super::list::EdgeList;
 use super::outcomes::{Fault, Put, Strike};
+use super::sizes::ListSizes;
 use meaning::{LabelId, NodeId};
 
 impl<'a> EdgeList<'a> {
     // A graph without edges over the memory `slots`, which keeps what it holds.
-    pub fn new(sizes: Sizes, slots: &'a mut [Edge]) -> EdgeList<'a>
+    pub fn new(sizes: ListSizes, slots: &'a mut [Edge]) -> EdgeList<'a>
         ensures graph { New (graph_of_list result) sizes.nodes sizes.labels (length slots.old) }
         ensures empty { result.len ≡ 0 }
         ensures memory { result.slots.now ≡ slots.old }
@@ -22,8 +23,7 @@ impl<'a> EdgeList<'a> {
         EdgeList {
             slots,
             len: 0,
-            nodes: sizes.nodes,
-            labels: sizes.labels,
+            sizes,
         }
     }
 }
@@ -32,11 +32,11 @@ impl<'a> Graph for EdgeList<'a> {
     ghost graph = { graph_of_list };
 
     fn node_count(&self) -> NodeId {
-        self.nodes
+        self.sizes.nodes
     }
 
     fn label_count(&self) -> LabelId {
-        self.labels
+        self.sizes.labels
     }
 
     fn capacity(&self) -> usize {
@@ -52,7 +52,7 @@ impl<'a> Graph for EdgeList<'a> {
         ensures memory { PutIn self.old.slots.now self.old.len e result self.new.slots.now }
         ensures lender { self.new.slots.ghost_name ≡ self.old.slots.ghost_name }
     {
-        check_edge(self.nodes, self.labels, e)?;
+        check_edge(self.sizes.nodes, self.sizes.labels, e)?;
         if let Some(_) = self.place(e) {
             return Ok(Put::There);
         }
@@ -68,7 +68,7 @@ impl<'a> Graph for EdgeList<'a> {
         ensures memory { StruckFrom self.old.slots.now self.old.len e result self.new.slots.now }
         ensures lender { self.new.slots.ghost_name ≡ self.old.slots.ghost_name }
     {
-        check_edge(self.nodes, self.labels, e)?;
+        check_edge(self.sizes.nodes, self.sizes.labels, e)?;
         match self.place(e) {
             Some(i) => {
                 self.remove(i);
@@ -80,8 +80,8 @@ impl<'a> Graph for EdgeList<'a> {
 
     fn follow(&self, node: NodeId, label: LabelId, bound: NodeId) -> Option<NodeId> {
         let mut best = None;
-        for i in 0..self.len {
-            best = lower(best, self.slots[i], node, label, bound);
+        for e in &self.slots[..self.len] {
+            best = lower(best, *e, node, label, bound);
         }
         best
     }

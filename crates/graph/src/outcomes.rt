@@ -1,5 +1,5 @@
 // What an accepted put answers.
-#[derive(Clone, Copy)]
+#[derive(Clone, Copy, Debug, PartialEq, Eq)]
 pub enum Put {
     // The edge was not in the graph, and is now.
     New,
@@ -8,7 +8,7 @@ pub enum Put {
 }
 
 // What an accepted strike answers.
-#[derive(Clone, Copy)]
+#[derive(Clone, Copy, Debug, PartialEq, Eq)]
 pub enum Strike {
     // The edge was in the graph, and is no more.
     Gone,
@@ -17,7 +17,7 @@ pub enum Strike {
 }
 
 // Why a put or a strike is refused.
-#[derive(Clone, Copy)]
+#[derive(Clone, Copy, Debug, PartialEq, Eq)]
 pub enum Fault {
     // One of the edge's nodes is not below the number of nodes.
     Node,
@@ -28,7 +28,7 @@ pub enum Fault {
 }
 
 // Which of a graph's sizes is out of range.
-#[derive(Clone, Copy)]
+#[derive(Clone, Copy, Debug, PartialEq, Eq)]
 pub enum SizeFault {
     Nodes,
     Labels,

@@ -9,27 +9,27 @@ ghost use Rattle.graph.specs.declared.outcomes.Fault.TheVariants.{Full};
 use super::edges::Edge;
 use super::interface::{Graph, check_edge};
 use super::outcomes::{Fault, Put, Strike};
-use super::table::{SmallSizes, SmallTable};
+use super::sizes::TableSizes;
+use super::table::SmallTable;
 use bits::{has, lowest};
 use meaning::{LabelId, NodeId};
 
 impl SmallTable {
     // A graph without edges.
-    pub fn new(sizes: SmallSizes) -> SmallTable
+    pub fn new(sizes: TableSizes) -> SmallTable
         ensures { New (graph_of_table result) sizes.nodes sizes.labels (sizes.nodes * sizes.nodes * sizes.labels) }
     {
         SmallTable {
             words: [0; 1664],
             len: 0,
-            nodes: sizes.nodes,
-            labels: sizes.labels,
+            sizes,
         }
     }
 
     // Whether the table has an edge.
     fn test(&self, e: Edge) -> bool
-        requires { Legal self.now.nodes self.now.labels e.from e.label e.to }
-        ensures { result ≡ holds (in_table self.now.nodes self.now.labels self.now.words) e }
+        requires { Legal self.now.sizes.nodes self.now.sizes.labels e.from e.label e.to }
+        ensures { result ≡ holds (in_table self.now.sizes.nodes self.now.sizes.labels self.now.words) e }
     {
         has(self.row(e.from, e.label), e.to as usize)
     }
@@ -39,15 +39,15 @@ impl Graph for SmallTable {
     ghost graph = { graph_of_table };
 
     fn node_count(&self) -> NodeId {
-        self.nodes
+        self.sizes.nodes
     }
 
     fn label_count(&self) -> LabelId {
-        self.labels
+        self.sizes.labels
     }
 
     fn capacity(&self) -> usize {
-        self.nodes as usize * self.nodes as usize * self.labels as usize
+        self.sizes.nodes as usize * self.sizes.nodes as usize * self.sizes.labels as usize
     }
 
     fn edge_count(&self) -> usize {
@@ -59,7 +59,7 @@ impl Graph for SmallTable {
         ensures puts { Puts (graph_of_table self.old) e result (graph_of_table self.new) }
         ensures roomy { result ≢ Err Full }
     {
-        check_edge(self.nodes, self.labels, e)?;
+        check_edge(self.sizes.nodes, self.sizes.labels, e)?;
         if self.test(e) {
             return Ok(Put::There);
         }
@@ -68,7 +68,7 @@ impl Graph for SmallTable {
     }
 
     fn strike(&mut self, e: Edge) -> Result<Strike, Fault> {
-        check_edge(self.nodes, self.labels, e)?;
+        check_edge(self.sizes.nodes, self.sizes.labels, e)?;
         if !self.test(e) {
             return Ok(Strike::NotThere);
         }
@@ -77,11 +77,11 @@ impl Graph for SmallTable {
     }
 
     fn follow(&self, node: NodeId, label: LabelId, bound: NodeId) -> Option<NodeId> {
-        if node >= self.nodes || label >= self.labels {
+        if node >= self.sizes.nodes || label >= self.sizes.labels {
             return None;
         }
         match lowest(self.row(node, label), bound as usize) {
-            Some(to) if to < self.nodes as usize => Some(to as NodeId),
+            Some(to) if to < self.sizes.nodes as usize => Some(to as NodeId),
             _ => None,
         }
     }

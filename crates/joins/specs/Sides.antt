@@ -1,4 +1,5 @@
 -- Sets of nodes noted from, and kept in, one side of a table of n rows of w words. The side true is the first of a pair, its row; the side false the second.
+--     is_first s       whether the code's s is the side of the firsts
 -- A set of nodes is a row of bits too, at `mask`.
 --     Found s start n w side x      some pair of the table at `start` has x on the side
 --     RowNoted s t row w mask u     u has joined the set if the row has a bit, and nothing else changed
@@ -7,8 +8,14 @@
 --     RowKept s t row w mask u      the row is cleared unless u is in the set, and nothing else changed
 --     KeptBy s t start n w mask side     the table keeps the pairs whose node on the side is in the set, and nothing else changed
 --     Joined s t into of n w mask a b    the table at `into` keeps the pairs whose node on side a the table at `of` has on side b; the set is empty, and nothing else changed
-use Rattle.std.specs.Prelude.{◌≡◌, ℕ, ◌+◌, ◌*◌, ◌<◌, ◌≤◌, Bool, true, cond, ◌&&◌, ◌⊎◌, List, slice_index}
+use Rattle.std.specs.Prelude.{◌≡◌, ℕ, ◌+◌, ◌*◌, ◌<◌, ◌≤◌, Bool, true, false, cond, ◌&&◌, ◌⊎◌, List, slice_index}
 use Rattle.bits.specs.Rows.{row_bit, SomeBit}
+use Rattle.joins.specs.declared.sides.Side.{Side}
+use Rattle.joins.specs.declared.sides.Side.TheVariants.{First, Second}
+
+abbrev pub is_first : Side → Bool
+is_first First = true
+is_first Second = false
 
 abbrev pub Found : List ℕ → ℕ → ℕ → ℕ → Bool → ℕ → Type 0
 Found s start n w side x = (u : ℕ) × (v : ℕ) × (u < n) × (v < w * 64) × (cond side u v ≡ x) × (row_bit s (start + u * w) v ≡ true)

@@ -5,3 +5,4 @@ mod passes;
 mod sides;
 
 pub use passes::reduce_all;
+pub use sides::Side;

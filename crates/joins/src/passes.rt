@@ -5,104 +5,90 @@ ghost use Rattle.order.specs.Orders.{Ordered};
 ghost use Rattle.order.specs.Ranks.{ranks};
 ghost use Rattle.shapes.specs.Checks.{of};
 
-use super::sides::{keep, note};
-use bits::clear;
+use super::sides::{Side, keep, note};
+use bits::{Rows, clear};
 use order::Order;
 use shapes::Ends;
 
 // Keeps in the table of atom `into` the pairs whose node at the variable some pair of atom `from` has there.
-// The w words behind the tables are scratch, and 0 before and after.
-fn semijoin(
-    words: &mut [u64],
-    atoms: &[Ends],
-    n: usize,
-    w: usize,
-    into: usize,
-    from: usize,
-    variable: u8,
-)
+// A row of words behind the tables is scratch, and 0 before and after.
+fn semijoin(words: &mut [u64], atoms: &[Ends], rows: Rows, into: usize, from: usize, variable: u8)
     requires into { into < length atoms.now }
     requires from { from < length atoms.now }
-    requires wide { n ≤ w * 64 }
-    requires room { length atoms.now * (n * w) + w ≤ length words.old }
-    requires ready { Ready words.old (length atoms.now) n w }
-    ensures { Reduced (of atoms.now) words.old words.new (length atoms.now) n w into from variable }
+    requires room { length atoms.now * (rows.count * rows.width) + rows.width ≤ length words.old }
+    requires ready { Ready words.old (length atoms.now) rows.count rows.width }
+    ensures { Reduced (of atoms.now) words.old words.new (length atoms.now) rows.count rows.width into from variable }
 {
-    let size = n * w;
+    let size = rows.count * rows.width;
     let mask = atoms.len() * size;
     note(
         words,
+        rows,
         from * size,
-        n,
-        w,
         mask,
-        variable == atoms[from].first,
+        Side::of(atoms[from], variable),
     );
     keep(
         words,
+        rows,
         into * size,
-        n,
-        w,
         mask,
-        variable == atoms[into].first,
+        Side::of(atoms[into], variable),
     );
-    clear(words, mask, w);
+    clear(words, mask, rows.width);
 }
 
 // From the last rank to the first, each atom's parent keeps what it shares with the atom.
-fn climb(words: &mut [u64], atoms: &[Ends], order: &Order, n: usize, w: usize)
+fn climb(words: &mut [u64], atoms: &[Ends], order: &Order, rows: Rows)
     requires some { (0 < length atoms.now) × (length atoms.now ≤ 8) }
-    requires wide { n ≤ w * 64 }
-    requires room { length atoms.now * (n * w) + w ≤ length words.old }
-    requires ready { Ready words.old (length atoms.now) n w }
-    requires ordered { (x : ℕ) × Ordered (of atoms.now) (length atoms.now) x (ranks order.now.at order.now.rank order.now.parent order.now.shared order.now.fresh) }
-    ensures { Climbed (of atoms.now) (length atoms.now) (ranks order.now.at order.now.rank order.now.parent order.now.shared order.now.fresh) words.old words.new n w 1 }
+    requires room { length atoms.now * (rows.count * rows.width) + rows.width ≤ length words.old }
+    requires ready { Ready words.old (length atoms.now) rows.count rows.width }
+    requires ordered { (x : ℕ) × Ordered (of atoms.now) (length atoms.now) x (ranks order.now) }
+    ensures { Climbed (of atoms.now) (length atoms.now) (ranks order.now) words.old words.new rows.count rows.width 1 }
 {
     for i in (1..atoms.len()).rev() {
+        let step = order.steps[i];
         semijoin(
             words,
             atoms,
-            n,
-            w,
-            order.at[order.parent[i]],
-            order.at[i],
-            order.shared[i],
+            rows,
+            order.steps[step.parent].atom,
+            step.atom,
+            step.shared,
         );
     }
 }
 
 // From the first rank to the last, each atom keeps what it shares with its parent.
-fn descend(words: &mut [u64], atoms: &[Ends], order: &Order, n: usize, w: usize)
+fn descend(words: &mut [u64], atoms: &[Ends], order: &Order, rows: Rows)
     requires some { (0 < length atoms.now) × (length atoms.now ≤ 8) }
-    requires wide { n ≤ w * 64 }
-    requires room { length atoms.now * (n * w) + w ≤ length words.old }
-    requires ready { Ready words.old (length atoms.now) n w }
-    requires ordered { (x : ℕ) × Ordered (of atoms.now) (length atoms.now) x (ranks order.now.at order.now.rank order.now.parent order.now.shared order.now.fresh) }
-    ensures { Descended (of atoms.now) (length atoms.now) (ranks order.now.at order.now.rank order.now.parent order.now.shared order.now.fresh) words.old words.new n w (length atoms.now) }
+    requires room { length atoms.now * (rows.count * rows.width) + rows.width ≤ length words.old }
+    requires ready { Ready words.old (length atoms.now) rows.count rows.width }
+    requires ordered { (x : ℕ) × Ordered (of atoms.now) (length atoms.now) x (ranks order.now) }
+    ensures { Descended (of atoms.now) (length atoms.now) (ranks order.now) words.old words.new rows.count rows.width (length atoms.now) }
 {
     for i in 1..atoms.len() {
+        let step = order.steps[i];
         semijoin(
             words,
             atoms,
-            n,
-            w,
-            order.at[i],
-            order.at[order.parent[i]],
-            order.shared[i],
+            rows,
+            step.atom,
+            order.steps[step.parent].atom,
+            step.shared,
         );
     }
 }
 
 // Makes both passes: each table then keeps exactly the pairs that assignments satisfying all tables use.
-// The w words behind the tables are scratch, and 0 before and after; no word behind them changes.
-pub fn reduce_all(words: &mut [u64], atoms: &[Ends], order: &Order, n: usize, w: usize)
+// A row of words behind the tables is scratch, and 0 before and after; no word behind them changes.
+pub fn reduce_all(words: &mut [u64], atoms: &[Ends], order: &Order, rows: Rows)
     requires some { (0 < length atoms.now) × (length atoms.now ≤ 8) }
-    requires wide { n ≤ w * 64 }
-    requires room { length atoms.now * (n * w) + w ≤ length words.old }
-    requires ready { Ready words.old (length atoms.now) n w }
-    requires ordered { (x : ℕ) × Ordered (of atoms.now) (length atoms.now) x (ranks order.now.at order.now.rank order.now.parent order.now.shared order.now.fresh) }
-    ensures { Passed (of atoms.now) (length atoms.now) words.old words.new n w }
+    requires room { length atoms.now * (rows.count * rows.width) + rows.width ≤ length words.old }
+    requires ready { Ready words.old (length atoms.now) rows.count rows.width }
+    requires ordered { (x : ℕ) × Ordered (of atoms.now) (length atoms.now) x (ranks order.now) }
+    ensures { Passed (of atoms.now) (length atoms.now) words.old words.new rows.count rows.width }
 {
-    climb(words, atoms, order, n, w);
-    descend(words, atoms, order, n, w);
+    climb(words, atoms, order, rows);
+    descend(words, atoms, order, rows);
 }

@@ -1,7 +1,28 @@
-ghost use Rattle.std.specs.Prelude.{◌+◌, ◌*◌, ◌<◌, ◌≤◌, true, false, length};
-ghost use Rattle.joins.specs.Sides.{Joined, KeptBy, Noted, NotedToo, RowKept, RowNoted};
+ghost use Rattle.std.specs.Prelude.{◌≡◌, ◌+◌, ◌*◌, ◌<◌, ◌≤◌, length, ◌==◌};
+ghost use Rattle.joins.specs.Sides.{KeptBy, Noted, RowKept, RowNoted, is_first};
 
-use bits::{clear, has_some, narrow, set, test, widen};
+use bits::{Rows, clear, has_some, narrow, set, test, widen};
+use shapes::Ends;
+
+// A side of the pairs of a table: their first nodes, each with a row of its own, or their second.
+#[derive(Clone, Copy)]
+pub enum Side {
+    First,
+    Second,
+}
+
+impl Side {
+    // The side of an atom's pairs on which a variable of the atom stands.
+    pub fn of(a: Ends, variable: u8) -> Side
+        ensures { is_first result ≡ (variable == a.first) }
+    {
+        if variable == a.first {
+            Side::First
+        } else {
+            Side::Second
+        }
+    }
+}
 
 // Adds node `u` to the set at `mask` if the row at `row` has a bit.
 fn note_row(words: &mut [u64], row: usize, w: usize, mask: usize, u: usize)
@@ -15,41 +36,19 @@ fn note_row(words: &mut [u64], row: usize, w: usize, mask: usize, u: usize)
     }
 }
 
-// Adds to the set the first nodes of a table's pairs.
-fn note_firsts(words: &mut [u64], start: usize, n: usize, w: usize, mask: usize)
-    requires apart { start + n * w ≤ mask }
-    requires room { mask + w ≤ length words.old }
-    requires wide { n ≤ w * 64 }
-    ensures { NotedToo words.old words.new start n w mask true }
+// Makes the set at `mask` the nodes that the pairs of the table at `start` have on a side.
+pub(crate) fn note(words: &mut [u64], rows: Rows, start: usize, mask: usize, side: Side)
+    requires apart { start + rows.count * rows.width ≤ mask }
+    requires room { mask + rows.width ≤ length words.old }
+    ensures { Noted words.old words.new start rows.count rows.width mask (is_first side) }
 {
-    for u in 0..n {
-        note_row(words, start + u * w, w, mask, u);
-    }
-}
-
-// Adds to the set the second nodes of a table's pairs.
-fn note_seconds(words: &mut [u64], start: usize, n: usize, w: usize, mask: usize)
-    requires apart { start + n * w ≤ mask }
-    requires room { mask + w ≤ length words.old }
-    ensures { NotedToo words.old words.new start n w mask false }
-{
-    for u in 0..n {
-        widen(words, start + u * w, mask, w);
-    }
-}
-
-// Makes the set at `mask` the nodes that the table's pairs have on a side.
-pub(crate) fn note(words: &mut [u64], start: usize, n: usize, w: usize, mask: usize, first: bool)
-    requires apart { start + n * w ≤ mask }
-    requires room { mask + w ≤ length words.old }
-    requires wide { n ≤ w * 64 }
-    ensures { Noted words.old words.new start n w mask first }
-{
-    clear(words, mask, w);
-    if first {
-        note_firsts(words, start, n, w, mask);
-    } else {
-        note_seconds(words, start, n, w, mask);
+    clear(words, mask, rows.width);
+    for u in 0..rows.count {
+        let row = start + u * rows.width;
+        match side {
+            Side::First => note_row(words, row, rows.width, mask, u),
+            Side::Second => widen(words, row, mask, rows.width),
+        }
     }
 }
 
@@ -65,40 +64,17 @@ fn keep_row(words: &mut [u64], row: usize, w: usize, mask: usize, u: usize)
     }
 }
 
-// Keeps the pairs whose first node is in the set.
-fn keep_firsts(words: &mut [u64], start: usize, n: usize, w: usize, mask: usize)
-    requires apart { start + n * w ≤ mask }
-    requires room { mask + w ≤ length words.old }
-    requires wide { n ≤ w * 64 }
-    ensures { KeptBy words.old words.new start n w mask true }
+// Keeps the pairs of the table at `start` whose node on a side is in the set at `mask`, and no other.
+pub(crate) fn keep(words: &mut [u64], rows: Rows, start: usize, mask: usize, side: Side)
+    requires apart { start + rows.count * rows.width ≤ mask }
+    requires room { mask + rows.width ≤ length words.old }
+    ensures { KeptBy words.old words.new start rows.count rows.width mask (is_first side) }
 {
-    for u in 0..n {
-        keep_row(words, start + u * w, w, mask, u);
-    }
-}
-
-// Keeps the pairs whose second node is in the set.
-fn keep_seconds(words: &mut [u64], start: usize, n: usize, w: usize, mask: usize)
-    requires apart { start + n * w ≤ mask }
-    requires room { mask + w ≤ length words.old }
-    requires wide { n ≤ w * 64 }
-    ensures { KeptBy words.old words.new start n w mask false }
-{
-    for u in 0..n {
-        narrow(words, start + u * w, mask, w);
-    }
-}
-
-// Keeps the pairs of the table whose node on a side is in the set at `mask`, and no other.
-pub(crate) fn keep(words: &mut [u64], start: usize, n: usize, w: usize, mask: usize, first: bool)
-    requires apart { start + n * w ≤ mask }
-    requires room { mask + w ≤ length words.old }
-    requires wide { n ≤ w * 64 }
-    ensures { KeptBy words.old words.new start n w mask first }
-{
-    if first {
-        keep_firsts(words, start, n, w, mask);
-    } else {
-        keep_seconds(words, start, n, w, mask);
+    for u in 0..rows.count {
+        let row = start + u * rows.width;
+        match side {
+            Side::First => keep_row(words, row, rows.width, mask, u),
+            Side::Second => narrow(words, row, mask, rows.width),
+        }
     }
 }

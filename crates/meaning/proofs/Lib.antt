@@ -1,4 +1,5 @@
 pub mod Tables
+pub mod Firsts
 pub mod Sums
 pub mod Counts
 pub mod Chains

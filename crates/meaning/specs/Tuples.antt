@@ -5,7 +5,8 @@
 --     Above h noted last xs   xs is above the last tuple, if one is noted
 --     Least F h noted last xs   xs is the lowest of the tuples of F that are above the last one, if one is noted
 --     Lowest F h noted last r   r is that tuple, or none
-use Rattle.std.specs.Prelude.{◌≡◌, ℕ, ◌<◌, Bool, true, List, Some, None, Option, slice_index}
+--     noted_of l, last_of l     whether l notes a last tuple, and which
+use Rattle.std.specs.Prelude.{◌≡◌, ℕ, ◌<◌, Bool, true, false, List, [], Some, None, Option, slice_index}
 
 abbrev pub node : List ℕ → ℕ → ℕ
 node xs i = slice_index xs i
@@ -30,3 +31,11 @@ pub record Least (F : List ℕ → Type 0) (h : ℕ) (noted : Bool) (last xs : L
 abbrev pub Lowest : (List ℕ → Type 0) → ℕ → Bool → List ℕ → Option (List ℕ) → Type 0
 Lowest F h noted last (Some xs) = Least F h noted last xs
 Lowest F h noted last None = (ys : List ℕ) → F ys → Above h noted last ys → ⊥
+
+abbrev pub noted_of : Option (List ℕ) → Bool
+noted_of (Some t) = true
+noted_of None = false
+
+abbrev pub last_of : Option (List ℕ) → List ℕ
+last_of (Some t) = t
+last_of None = []

@@ -1,11 +1,12 @@
 -- One atom after another is taken: what holds when k are.
-use Rattle.std.proofs.Common.{◌≡◌, ℕ, suc, ◌+◌, ◌-◌, ◌<◌, ◌≤◌, ltb, ◌⊎◌, List, [], ◌∷◌, length, get_or, set, replicate, sym, refl, ap, ◌∙◌, subst, inl, inr, arith, get_or-set_other, get_or-set_same}
-use lib.ListN.{get_or-replicate}
+use Rattle.std.proofs.Common.{◌≡◌, ℕ, zero, suc, ◌+◌, ◌-◌, ◌<◌, ◌≤◌, ltb, ◌⊎◌, Option, Some, None, IsSome, unwrap_or, List, [], ◌∷◌, length, get_or, set, replicate, sym, refl, ap, ◌∙◌, subst, inl, inr, arith, get_or-set_other, get_or-set_same}
 use Rattle.std.proofs.lemmas.Bool.{cases_eq, cases_lt, lt-ltb, le-ltb}
+use Rattle.std.proofs.lemmas.Option.{none-some}
 use Rattle.meaning.specs.Shapes.{Atoms, Joins, Has, Step, Chain, Connected, Cycle, Before}
 use Rattle.meaning.proofs.Chains.{connected_same, connected_step, connected_trans, connected_turn, connected_more, cycle_more, cycle_closes}
 use Rattle.order.specs.Ranks.{Ranks}
 use Rattle.order.specs.Orders.{Ordered, Chosen, Late, Touches}
+use Rattle.order.specs.Steps.{Open}
 use Rattle.order.proofs.Counts.{count, count_none, count_all, count_room, count_more}
 
 -- the atoms that are taken
@@ -36,8 +37,53 @@ pub record Taking (q : Atoms) (m x k : ℕ) (a : Ranks) (seen : ℕ → ℕ) : T
 abbrev pub Changed : (ℕ → ℕ) → (ℕ → ℕ) → ℕ → ℕ → Type 0
 Changed f g i v = (g i ≡ v) × ((j : ℕ) → (j ≡ i → ⊥) → g j ≡ f j)
 
-pub changed_set : (xs : List ℕ) (i v : ℕ) → i < length xs → Changed (λ j. get_or xs j 0) (λ j. get_or (set xs i v) j 0) i v
-changed_set xs i v l = (get_or-set_same xs i v 0 l, λ j n. get_or-set_other xs i j v 0 n)
+pub changed_at : {X : Type 0} (f : X → ℕ) (xs : List X) (i : ℕ) (x d : X) → i < length xs → Changed (λ j. f (get_or xs j d)) (λ j. f (get_or (set xs i x) j d)) i (f x)
+changed_at f xs i x d l = (ap f (get_or-set_same xs i x d l), λ j n. ap f (get_or-set_other xs i j x d n))
+
+-- what the code notes of atoms and variables: none, or a rank below 8
+abbrev pub Small : List (Option ℕ) → Type 0
+Small rs = (i r : ℕ) → get_or rs i None ≡ Some r → r < 8
+
+pub small_set : (rs : List (Option ℕ)) (i r : ℕ) → i < length rs → r < 8 → Small rs → Small (set rs i (Some r))
+small_set rs i r l low small j z e = elim (cases_eq j i) [
+  | inl p ↦ (let same : Some r ≡ Some z = sym (get_or-set_same rs i (Some r) None l) ∙ ap (λ (y : ℕ). get_or (set rs i (Some r)) y None) (sym p) ∙ e in
+      let is : r ≡ z = some_same r z same in omega arith)
+  | inr n ↦ small j z (sym (get_or-set_other rs i j (Some r) None n) ∙ e)
+]
+  where
+    some_same : (a b : ℕ) → ◌≡◌ {A = Option ℕ} (Some a) (Some b) → a ≡ b
+    some_same a b p = ap (λ (o : Option ℕ). unwrap_or o 8) p
+
+pub small_none : (n : ℕ) → Small (replicate n None)
+small_none n i r e = absurd (by_eight (get_or (replicate n None) i None) r (nothing n i) e)
+  where
+    nothing : (n i : ℕ) → ◌≡◌ {A = Option ℕ} (get_or (replicate n None) i None) None
+    nothing zero i = refl
+    nothing (suc n) zero = refl
+    nothing (suc n) (suc i) = nothing n i
+
+    by_eight : (o : Option ℕ) (r : ℕ) → o ≡ None → o ≡ Some r → ⊥
+    by_eight o r e f = none-some r (sym e ∙ f)
+
+-- a rank that is noted is below 8, and only such a one
+noted : (o : Option ℕ) → ((r : ℕ) → o ≡ Some r → r < 8) → (o ≡ None) ⊎ (unwrap_or o 8 < 8)
+noted None small = inl refl
+noted (Some r) small = inr (small r refl)
+
+unnoted : (rs : List (Option ℕ)) (i : ℕ) → Small rs → 8 ≤ unwrap_or (get_or rs i None) 8 → get_or rs i None ≡ None
+unnoted rs i small l = elim (noted (get_or rs i None) (small i)) [ inl e ↦ e | inr k ↦ absurd (omega arith) ]
+
+seen_is : (o : Option ℕ) → unwrap_or o 8 < 8 → IsSome o
+seen_is None l = absurd (omega arith)
+seen_is (Some r) l = refl
+
+-- an atom without a rank below 8 that has a variable seen below 8 is open
+pub opened : (q : Atoms) (rank seen : List (Option ℕ)) (c : ℕ) → Small rank
+    → (8 ≤ unwrap_or (get_or rank c None) 8) × ((unwrap_or (get_or seen (q.first c) None) 8 < 8) ⊎ (unwrap_or (get_or seen (q.second c) None) 8 < 8)) → Open q rank seen c
+opened q rank seen c small h = (
+  unnoted rank c small h.0,
+  elim h.1 [ inl l ↦ inl (seen_is (get_or seen (q.first c) None) l) | inr l ↦ inr (seen_is (get_or seen (q.second c) None) l) ],
+)
 
 has_at : (q : Atoms) (d e v : ℕ) → d ≡ e → Has q e v → Has q d v
 has_at q d e v p h = let F : ℕ → Type 0 = λ c. Has q c v in subst F (sym p) h
@@ -377,8 +423,19 @@ module _ (q : Atoms) (m x k : ℕ) (a : Ranks) (sa : ℕ → ℕ) (t : Taking q 
         record { earliest = λ i d l. t.earliest i d (omega arith); parents = λ i j p l. t.parents i j p (omega arith) }
 
 -- the ranks and the seen variables at the start
-pub start_seen : (x : ℕ) → x < 256 → (get_or {A = ℕ} (set (replicate 256 8) x 0) x 0 ≡ 0) × ((v : ℕ) → v < 256 → (v ≡ x → ⊥) → get_or {A = ℕ} (set (replicate 256 8) x 0) v 0 ≡ 8)
-start_seen x l = (get_or-set_same (replicate 256 8) x 0 0 l, λ v vl n. get_or-set_other (replicate 256 8) x v 0 0 n ∙ get_or-replicate 256 v 8 0 vl)
+pub none_at : (n v : ℕ) → ◌≡◌ {A = ℕ} (unwrap_or (get_or (replicate n None) v None) 8) 8
+none_at zero v = refl
+none_at (suc n) zero = refl
+none_at (suc n) (suc v) = none_at n v
+
+abbrev pub seen_from : ℕ → List (Option ℕ)
+seen_from x = set (replicate 256 None) x (Some 0)
+
+pub start_seen : (x : ℕ) → x < 256 → ◌≡◌ {A = ℕ} (unwrap_or (get_or (seen_from x) x None) 8) 0 × ((v : ℕ) → v < 256 → (v ≡ x → ⊥) → ◌≡◌ {A = ℕ} (unwrap_or (get_or (seen_from x) v None) 8) 8)
+start_seen x l = (
+  ap (λ (o : Option ℕ). unwrap_or o 8) (get_or-set_same (replicate 256 None) x (Some 0) None l),
+  λ v vl n. ap (λ (o : Option ℕ). unwrap_or o 8) (get_or-set_other (replicate 256 None) x v (Some 0) None n) ∙ none_at 256 v,
+)
 
 pub acyclic_from : (q : Atoms) (m : ℕ) → 0 < m → ((i : ℕ) → i < m → Cycle q (Before (suc i)) → ⊥) → Cycle q (Before m) → ⊥
 acyclic_from q m pos h c = h (m - 1) (omega arith) (cycle_more q (Before m) (Before (suc (m - 1))) (λ i l. omega arith) c)

@@ -1,57 +1,72 @@
 // The order in which the atoms of a query are reached.
 #![tactic(auto)]
 
-ghost use Rattle.std.specs.Prelude.{◌≡◌, ℕ, ◌<◌, ◌≤◌, ◌⊎◌, length, Decides, slice_index};
-ghost use Rattle.meaning.specs.Firsts.{FirstAt};
+ghost use Rattle.std.specs.Prelude.{◌≡◌, ℕ, ◌<◌, ◌≤◌, length, None, IfNone, IfSome, slice_index_or};
 ghost use Rattle.shapes.specs.Checks.{of, Cyclic, Unconnected, Absent};
 ghost use Rattle.order.specs.Orders.{Chosen, Ordered};
 ghost use Rattle.order.specs.Ranks.{ranks};
-ghost use Rattle.order.specs.Steps.{Open, Sides};
+ghost use Rattle.order.specs.Steps.{Hangs, Open, seen_at};
 
 use shapes::Ends;
 
-// Whether a variable of the atom is seen.
-fn is_seen(a: Ends, seen: &[usize; 256]) -> bool
-    ensures { Decides result ((slice_index seen.now a.first < 8) ⊎ (slice_index seen.now a.second < 8)) }
-{
-    seen[a.first as usize] < 8 || seen[a.second as usize] < 8
-}
-
-// The earliest atom that is not taken and has a variable that is seen.
-fn next_open(atoms: &[Ends], rank: &[usize; 8], seen: &[usize; 256]) -> Option<usize>
-    requires { length atoms.now ≤ 8 }
-    ensures { FirstAt (Open (of atoms.now) rank.now seen.now) (length atoms.now) result }
-{
-    for (i, a) in atoms.iter().enumerate() {
-        if rank[i] >= 8 && is_seen(*a, seen) {
-            return Some(i);
-        }
-    }
-    None
-}
-
-// The variables of an atom, one that is seen first.
-fn sides(a: Ends, seen: &[usize; 256]) -> (u8, u8)
-    requires { (slice_index seen.now a.first < 8) ⊎ (slice_index seen.now a.second < 8) }
-    ensures { Sides a.first a.second result.0 result.1 seen.now }
-{
-    if seen[a.first as usize] < 8 {
-        (a.first, a.second)
-    } else {
-        (a.second, a.first)
-    }
+// How an atom is reached.
+#[derive(Clone, Copy)]
+pub struct Step {
+    pub atom: usize,
+    // The rank of the parent, the variable that is shared with it, and the other one.
+    pub parent: usize,
+    pub shared: u8,
+    pub fresh: u8,
 }
 
 // The order in which atoms are reached.
 #[derive(Clone, Copy)]
 pub struct Order {
-    // The atom of each rank, and the rank of each atom.
-    pub at: [usize; 8],
-    pub rank: [usize; 8],
-    // By rank: the rank of the parent, the variable shared with it, and the other one.
-    pub parent: [usize; 8],
-    pub shared: [u8; 8],
-    pub fresh: [u8; 8],
+    // By rank.
+    pub steps: [Step; 8],
+    // The rank of each atom.
+    pub rank: [Option<usize>; 8],
+}
+
+// How an atom is reached from what is seen, if one of its variables is.
+fn step_to(atom: usize, a: Ends, seen: &[Option<usize>; 256]) -> Option<Step>
+    ensures none { IfNone result ((seen_at seen.now a.first ≡ None) × (seen_at seen.now a.second ≡ None)) }
+    ensures some { IfSome result (λ s. (s.atom ≡ atom) × Hangs a.first a.second s seen.now) }
+{
+    if let Some(parent) = seen[a.first as usize] {
+        return Some(Step {
+            atom,
+            parent,
+            shared: a.first,
+            fresh: a.second,
+        });
+    }
+    let parent = seen[a.second as usize]?;
+    Some(Step {
+        atom,
+        parent,
+        shared: a.second,
+        fresh: a.first,
+    })
+}
+
+// The step to the earliest atom that has no rank yet and has a variable that is seen.
+fn next_step(atoms: &[Ends], rank: &[Option<usize>; 8], seen: &[Option<usize>; 256]) -> Option<Step>
+    requires { length atoms.now ≤ 8 }
+    ensures none { IfNone result ((d : ℕ) → d < length atoms.now → Open (of atoms.now) rank.now seen.now d → ⊥) }
+    ensures some { IfSome result (λ s.
+        (s.atom < length atoms.now) × (slice_index_or rank.now s.atom None ≡ None)
+        × Hangs ((of atoms.now).first s.atom) ((of atoms.now).second s.atom) s seen.now
+        × ((d : ℕ) → d < s.atom → Open (of atoms.now) rank.now seen.now d → ⊥)) }
+{
+    for (i, a) in atoms.iter().enumerate() {
+        if rank[i].is_none() {
+            if let Some(step) = step_to(i, *a, seen) {
+                return Some(step);
+            }
+        }
+    }
+    None
 }
 
 // The atoms in the order in which they are reached from the variable `start`.
@@ -61,32 +76,25 @@ pub fn reach(atoms: &[Ends], start: u8) -> Order
     requires used { Absent atoms.now start → ⊥ }
     requires acyclic { (i : ℕ) → i < length atoms.now → Cyclic atoms.now i → ⊥ }
     requires connected { (i : ℕ) → i < length atoms.now → Unconnected atoms.now i → ⊥ }
-    ensures ordered { Ordered (of atoms.now) (length atoms.now) start (ranks result.at result.rank result.parent result.shared result.fresh) }
-    ensures chosen { Chosen (of atoms.now) (length atoms.now) start (ranks result.at result.rank result.parent result.shared result.fresh) }
+    ensures ordered { Ordered (of atoms.now) (length atoms.now) start (ranks result) }
+    ensures chosen { Chosen (of atoms.now) (length atoms.now) start (ranks result) }
 {
-    let mut at: [usize; 8] = [0; 8];
-    let mut rank: [usize; 8] = [8; 8];
-    let mut parent: [usize; 8] = [0; 8];
-    let mut shared: [u8; 8] = [0; 8];
-    let mut fresh: [u8; 8] = [0; 8];
-    let mut seen: [usize; 256] = [8; 256];
-    seen[start as usize] = 0;
-    let mut k: usize = 0;
-    while let Some(c) = next_open(atoms, &rank, &seen) {
-        let (s, f) = sides(atoms[c], &seen);
-        at[k] = c;
-        rank[c] = k;
-        parent[k] = seen[s as usize];
-        shared[k] = s;
-        fresh[k] = f;
-        seen[f as usize] = k;
-        k += 1;
+    let mut steps = [Step {
+        atom: 0,
+        parent: 0,
+        shared: 0,
+        fresh: 0,
+    }; 8];
+    let mut rank = [None; 8];
+    let mut seen = [None; 256];
+    seen[start as usize] = Some(0);
+    for (k, place) in steps.iter_mut().enumerate() {
+        let Some(step) = next_step(atoms, &rank, &seen) else {
+            break;
+        };
+        *place = step;
+        rank[step.atom] = Some(k);
+        seen[step.fresh as usize] = Some(k);
     }
-    Order {
-        at,
-        rank,
-        parent,
-        shared,
-        fresh,
-    }
+    Order { steps, rank }
 }

@@ -47,11 +47,11 @@ module _ {q : Query} {xs : List ℕ} (e : List Ends) (t : HoldsText q xs) (long 
   verdict r v = subst (λ (y : List ℕ). Verdict y (ends t.atoms) r) head (subst (λ (y : List Ends). Verdict (take q.head.count xs) y r) pairs v)
 
   pub accepted : (o : Order) → Verdict (take q.head.count xs) (take q.count e) (Ok tt)
-      → Ordered (of (take q.count e)) (length (take q.count e)) (get_or q.head.names 0 0) (ranks o.at o.rank o.parent o.shared o.fresh)
-      → Chosen (of (take q.count e)) (length (take q.count e)) (get_or q.head.names 0 0) (ranks o.at o.rank o.parent o.shared o.fresh)
+      → Ordered (of (take q.count e)) (length (take q.count e)) (get_or q.head.names 0 0) (ranks o)
+      → Chosen (of (take q.count e)) (length (take q.count e)) (get_or q.head.names 0 0) (ranks o)
       → Accepted xs (record { query = q; order = o })
   accepted o v a b =
-      let R = ranks o.at o.rank o.parent o.shared o.fresh in
+      let R = ranks o in
       let s = t.atoms in
       let n = ends_long t.atoms in
       let f = first_name t.holds in

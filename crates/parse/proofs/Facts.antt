@@ -57,9 +57,9 @@ module _ (p : Parsed) (held : ((xs : List ℕ) → length xs ≤ 512 → Accepte
 
   module _ (e : List Ends) (long : length e ≡ 8) (each : (d : Ends) (i : ℕ) → i < 8 → get_or e i d ≡ pair (get_or p.query.atoms i no_atom)) where
     -- the atoms stand in the order in which they are reached
-    pub arranged : (x : ℕ) × Ordered (of (take p.query.count e)) (length (take p.query.count e)) x (ranks p.order.at p.order.rank p.order.parent p.order.shared p.order.fresh)
+    pub arranged : (x : ℕ) × Ordered (of (take p.query.count e)) (length (take p.query.count e)) x (ranks p.order)
     arranged =
-        let R = ranks p.order.at p.order.rank p.order.parent p.order.shared p.order.fresh in
+        let R = ranks p.order in
         let x = get_or p.query.head.names 0 0 in (
           x,
           stable_ordered (of (take p.query.count e)) (length (take p.query.count e)) x R (λ k. held (λ xs l a.

@@ -24,8 +24,8 @@ pub record Reads (xs : List ℕ) (h : HeadTree) (s : AtomsTree) : Type 0 where
 
 -- The atoms s are put in the order in which they are reached from the first variable of the head h.
 pub record Arranged (o : Order) (h : HeadTree) (s : AtomsTree) : Type 0 where
-  pub ordered : Ordered (of (ends s)) (number s) (slice_index (names h) 0) (ranks o.at o.rank o.parent o.shared o.fresh)
-  pub chosen : Chosen (of (ends s)) (number s) (slice_index (names h) 0) (ranks o.at o.rank o.parent o.shared o.fresh)
+  pub ordered : Ordered (of (ends s)) (number s) (slice_index (names h) 0) (ranks o)
+  pub chosen : Chosen (of (ends s)) (number s) (slice_index (names h) 0) (ranks o)
 
 -- The text is a query that passes every check, and p holds it.
 pub record Accepted (xs : List ℕ) (p : Parsed) : Type 0 where

@@ -4,12 +4,14 @@
 ghost use Rattle.std.specs.Prelude.{◌≡◌, ℕ, ◌<◌, ◌≤◌, length, slice_index_or};
 ghost use Rattle.shapes.specs.declared.checks.Ends.{Ends as EndsOf};
 ghost use Rattle.query.specs.Texts.{HoldsText};
+ghost use Rattle.parse.specs.declared.Refusal.TheVariants.{Unread};
 ghost use Rattle.parse.specs.Parsing.{Parses, refusal_number, refusal_place};
 ghost use Rattle.parse.specs.Shaping.{Numbered, kept_place, no_atom, pair};
 
 use order::{Order, reach};
 use query::{Atom, Query, read_query};
 use shapes::{Ends, check_shape};
+use std::array;
 
 // A query that passed every check, and the order in which its atoms are reached.
 #[derive(Clone, Copy)]
@@ -19,7 +21,7 @@ pub struct Parsed {
 }
 
 // Why a text is refused.
-#[derive(Clone, Copy)]
+#[derive(Clone, Copy, Debug, PartialEq, Eq)]
 pub enum Refusal {
     // It has more than 512 bytes.
     TooLong,
@@ -27,6 +29,14 @@ pub enum Refusal {
     Unread(query::Fault),
     // Its head or its atoms are out of shape, and where in the text that shows.
     Misshapen(shapes::Fault, usize),
+}
+
+impl From<query::Fault> for Refusal {
+    ghost from_gives = { λ f r. r ≡ Unread f };
+
+    fn from(fault: query::Fault) -> Refusal {
+        Refusal::Unread(fault)
+    }
 }
 
 impl Refusal {
@@ -60,10 +70,7 @@ pub fn parse(text: &[u8]) -> Result<Parsed, Refusal>
     if text.len() > 512 {
         return Err(Refusal::TooLong);
     }
-    match read_query(text) {
-        Ok(query) => arrange(text, query),
-        Err(fault) => Err(Refusal::Unread(fault)),
-    }
+    arrange(text, read_query(text)?)
 }
 
 // Checks the shape of a query that was read from a text, and puts its atoms in order.
@@ -91,17 +98,17 @@ pub fn ends(atoms: &[Atom; 8]) -> [Ends; 8]
     ensures long { length result ≡ 8 }
     ensures each { (d : EndsOf) (i : ℕ) → i < 8 → slice_index_or result i d ≡ pair (slice_index_or atoms.now i no_atom) }
 {
-    let mut out = [Ends {
-        first: 0,
-        second: 0,
-    }; 8];
-    for i in 0..8 {
-        out[i] = Ends {
-            first: atoms[i].first,
-            second: atoms[i].second,
-        };
+    array::from_fn(|i| end(&atoms[i]))
+}
+
+// The two variables of an atom.
+fn end(atom: &Atom) -> Ends
+    ensures { result ≡ pair atom.now }
+{
+    Ends {
+        first: atom.first,
+        second: atom.second,
     }
-    out
 }
 
 // The place in the text of what a check of the shape found.
@@ -110,10 +117,9 @@ fn place(atoms: &[Atom; 8], fault: shapes::Fault) -> usize
     ensures { result ≡ kept_place atoms.now fault }
 {
     match fault {
-        shapes::Fault::RepeatedVariable(i) => i,
-        shapes::Fault::UnusedVariable(i) => i,
-        shapes::Fault::CyclicAtom(i) => atoms[i].place,
-        shapes::Fault::UnconnectedAtom(i) => atoms[i].place,
-        shapes::Fault::LoneVariable(i) => i,
+        shapes::Fault::RepeatedVariable(i)
+        | shapes::Fault::UnusedVariable(i)
+        | shapes::Fault::LoneVariable(i) => i,
+        shapes::Fault::CyclicAtom(i) | shapes::Fault::UnconnectedAtom(i) => atoms[i].place,
     }
 }

@@ -1,6 +1,6 @@
 // Tables of path expressions on both kinds of graph, at the widths where a row gains a word.
 use bits::{test, width};
-use graph::{Edge, EdgeList, Graph, Sizes, SmallSizes, SmallTable};
+use graph::{Edge, EdgeList, Graph, ListSizes, SmallTable, TableSizes};
 use query::read_expression;
 use std::process::Abort;
 use std::test::Fail;
@@ -38,15 +38,11 @@ fn reflexive<'t, 'p>(text: &'t [u8], pairs: &'p [(u16, u16)]) -> Case<'t, 'p> {
 }
 
 fn expects(expected: Expected, n: usize, u: usize, v: usize) -> bool {
-    if expected.loops && u == v && u < n {
-        return true;
-    }
-    for (a, b) in expected.pairs {
-        if *a as usize == u && *b as usize == v {
-            return true;
-        }
-    }
-    false
+    expected.loops && u == v && u < n
+        || expected
+            .pairs
+            .iter()
+            .any(|(a, b)| *a as usize == u && *b as usize == v)
 }
 
 // Fills the table of an expression in words that hold something else, and looks at every bit of it and at the words around it.
@@ -104,7 +100,7 @@ fn on_both(
     edges: &[(u16, u8, u16)],
     rows: &[Case],
 ) -> Result<(), Fail> {
-    let Ok(sizes) = Sizes::new(nodes, labels) else {
+    let Ok(sizes) = ListSizes::new(nodes, labels) else {
         return Err(Fail::new("sizes"));
     };
     let mut memory = [Edge {
@@ -115,7 +111,7 @@ fn on_both(
     let mut list = EdgeList::new(sizes, &mut memory);
     put_all(&mut list, edges);
     check_rows(rt, &list, rows)?;
-    let Ok(sizes) = SmallSizes::new(nodes, labels) else {
+    let Ok(sizes) = TableSizes::new(nodes, labels) else {
         return Ok(());
     };
     let mut table = SmallTable::new(sizes);

@@ -3,7 +3,7 @@ use Rattle.std.proofs.Common.{◌≡◌, ℕ, zero, suc, ◌+◌, ◌<◌, ◌�
 use Rattle.std.proofs.lemmas.Bool.Decides.{nat_tests}
 use Rattle.std.proofs.lemmas.Bool.{cases_lt}
 use Rattle.std.proofs.lemmas.List.{drop_all}
-use Rattle.query.specs.declared.reader.Reader.{Reader}
+use Rattle.query.specs.declared.cursor.Reader.{Reader}
 use Rattle.query.specs.declared.drafts.Atom.{Atom}
 use Rattle.query.specs.declared.drafts.Head.{Head}
 use Rattle.query.specs.declared.drafts.Draft.{Draft}

@@ -1,7 +1,7 @@
 -- The steps of the readers: loops over joined texts, units, signs.
 use Rattle.std.proofs.Common.{◌≡◌, ℕ, ◌+◌, ◌≤◌, true, false, List, [], ◌∷◌, ◌++◌, length, Ok, Err, sym, refl, ap, ◌∙◌, subst, append_assoc, arith}
 use Rattle.std.proofs.lemmas.Bool.Decides.{nat_tests}
-use Rattle.query.specs.declared.reader.Reader.{Reader}
+use Rattle.query.specs.declared.cursor.Reader.{Reader}
 use Rattle.automata.specs.declared.builder.Part.{Part}
 use Rattle.automata.specs.declared.builder.Builder.{Builder}
 use Rattle.meaning.specs.Words.{Regex, cat, alt}

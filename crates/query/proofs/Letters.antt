@@ -1,5 +1,6 @@
 -- The 64th letter or dot of an expression.
-use Rattle.std.proofs.Common.{◌≡◌, ℕ, zero, suc, ◌+◌, ◌<◌, ◌≤◌, Bool, true, false, cond, List, [], ◌∷◌, ◌++◌, length, get_or, drop, Some, None, sym as back, refl, ap, ◌∙◌, inl, inr, append_assoc, append-nil, arith, length-append}
+use Rattle.std.proofs.Common.{◌≡◌, ℕ, zero, suc, ◌+◌, ◌-◌, ◌<◌, ◌≤◌, Bool, true, false, cond, List, [], ◌∷◌, ◌++◌, length, get_or, drop, take, Some, None, sym as back, refl, ap, ◌∙◌, inl, inr, append_assoc, append-nil, arith, length-append}
+use Rattle.std.proofs.lemmas.Grind.{common_steps}
 use Rattle.std.proofs.lemmas.Bool.{le-leb, cases_lt}
 use Rattle.std.proofs.lemmas.List.{drop_more, drop_all}
 use Rattle.query.specs.Grammar as G
@@ -177,3 +178,10 @@ over_not b n t h = elim (cases_lt 63 (size (inside_regex (inside_of t)))) [
   | inl lt ↦ (let s = is_there (inside_text (inside_of t)) (inside_many (inside_of t) lt) in absurd (h (b + 2 + s.0) (inr (s.0, refl, s.1))))
   | inr ge ↦ ge
 ]
+
+-- reads of what stands from a place on
+pub read_from : (xs : List ℕ) (from i : ℕ) → from ≤ length xs → i < length xs - from → get_or (take (length xs - from) (drop from xs)) i 0 ≡ get_or xs (from + i) 0
+read_from xs from i l h = grind (arith, common_steps)
+
+pub length_from : (xs : List ℕ) (from : ℕ) → length (take (length xs - from) (drop from xs)) ≡ length xs - from
+length_from xs from = grind (arith, common_steps)

@@ -7,7 +7,7 @@ use Rattle.std.specs.Prelude.{◌≡◌, ℕ, ◌+◌, ◌≤◌, Bool, List, �
 use Rattle.automata.specs.declared.builder.Builder.{Builder}
 use Rattle.automata.specs.declared.builder.Part.{Part}
 use Rattle.automata.specs.Parts.{Holds, Kept}
-use Rattle.query.specs.declared.reader.Reader.{Reader}
+use Rattle.query.specs.declared.cursor.Reader.{Reader}
 use Rattle.query.specs.Grammar as G
 use Rattle.query.specs.Grammar.{Layer, Tree, Took, Halted, Stops}
 use Rattle.query.specs.Trees.{regex}

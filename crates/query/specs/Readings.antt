@@ -1,6 +1,6 @@
 -- What each reader of a part of a query text does.
 use Rattle.std.specs.Prelude.{◌≡◌, ℕ, ◌+◌, ◌<◌, ◌≤◌, List, [], ◌∷◌, ◌++◌, length, IfSome, Result, MatchOption, MatchResult, slice_index_or}
-use Rattle.query.specs.declared.reader.Reader.{Reader}
+use Rattle.query.specs.declared.cursor.Reader.{Reader}
 use Rattle.query.specs.declared.drafts.Atom.{Atom}
 use Rattle.query.specs.declared.drafts.Head.{Head}
 use Rattle.query.specs.declared.drafts.Draft.{Draft}

@@ -41,7 +41,7 @@ pub struct Query {
 }
 
 // Why a text is refused, and its place.
-#[derive(Clone, Copy)]
+#[derive(Clone, Copy, Debug, PartialEq, Eq)]
 pub enum Fault {
     // The text is no query: the length of its longest beginning that begins one.
     NoQuery(usize),
@@ -65,8 +65,7 @@ impl Fault {
         ensures { result ≡ fault_place self }
     {
         match self {
-            Fault::NoQuery(place) => place,
-            Fault::TooLarge(place) => place,
+            Fault::NoQuery(place) | Fault::TooLarge(place) => place,
         }
     }
 }
@@ -98,10 +97,7 @@ impl Draft {
             self.atoms[self.count] = atom;
         }
         self.count += 1;
-        match self.over {
-            None => self.over = over,
-            Some(_) => {}
-        }
+        self.over = self.over.or(over);
     }
 }
 

@@ -1,6 +1,6 @@
 ghost use Rattle.query.specs.Expressions.{Expresses};
 
-use super::reader::Reader;
+use super::cursor::Reader;
 use automata::{Automaton, Builder, finish};
 
 // Reads a text that is one path expression, or answers the length of its longest beginning that begins one.

@@ -1,6 +1,7 @@
 // Query texts: path expressions and whole queries, read into position automata.
 #![tactic(auto)]
 
+mod cursor;
 mod drafts;
 mod expressions;
 mod parts;

@@ -1,15 +1,14 @@
-ghost use Rattle.std.specs.Prelude.{◌≡◌, ◌+◌, ◌≤◌, length};
+ghost use Rattle.std.specs.Prelude.{◌≡◌, ◌≤◌};
 ghost use Rattle.query.specs.Readings.{Atomed, Claused, Enclosed, Headed, Named};
 
+use super::cursor::Reader;
 use super::drafts::{Atom, Draft, Head, sealed};
-use super::reader::Reader;
 use super::texts::excess;
 use automata::{Builder, Part, Symbol};
 
 impl Reader<'_> {
     // A variable: a capital letter.
     fn name(&mut self) -> Result<u8, usize>
-        requires { self.old.at ≤ length self.old.text.now }
         ensures { Named self.old self.new result }
     {
         let Some(c) = self.peek() else {
@@ -26,7 +25,7 @@ impl Reader<'_> {
 
     // What stands in square brackets, with the closing one; nothing means a dot.
     fn inside(&mut self, out: &mut Builder) -> Result<Part, usize>
-        requires { (self.old.at ≤ length self.old.text.now) × (out.old.count ≤ self.old.at) }
+        requires { out.old.count ≤ self.old.at }
         ensures { Enclosed self.old self.new out.old out.new result }
     {
         if self.eat(']') {
@@ -42,7 +41,6 @@ impl Reader<'_> {
 
     // An atom: a variable, square brackets, and a variable.
     fn atom(&mut self) -> Result<Atom, usize>
-        requires { self.old.at ≤ length self.old.text.now }
         ensures { Atomed self.old self.new result }
     {
         let place = self.at;
@@ -76,7 +74,7 @@ impl Reader<'_> {
 
     // An atom, put behind those of the draft.
     pub(crate) fn clause(&mut self, out: &mut Draft) -> Result<(), usize>
-        requires { (self.old.at ≤ length self.old.text.now) × (out.old.count ≤ self.old.at) }
+        requires { out.old.count ≤ self.old.at }
         ensures { Claused self.old self.new out.old out.new result }
     {
         let start = self.at;

@@ -2,14 +2,8 @@ ghost use Rattle.std.specs.Prelude.{◌≡◌, ◌+◌, ◌<◌, ◌≤◌, [], 
 ghost use Rattle.query.specs.Grammar.{Layer};
 ghost use Rattle.query.specs.Outcome.{Ahead, Eats, Outcome};
 
+use super::cursor::Reader;
 use automata::{Builder, Part, Symbol, either, optional};
-
-// A text, and how far it was read.
-#[derive(Drop)]
-pub struct Reader<'a> {
-    pub(crate) text: &'a [u8],
-    pub(crate) at: usize,
-}
 
 impl Reader<'_> {
     // The character at the place, or none at the end.
@@ -17,35 +11,26 @@ impl Reader<'_> {
         ensures end { MatchOption result (length self.now.text.now ≤ self.now.at) (λ c. self.now.at < length self.now.text.now) }
         ensures rest { MatchOption result (drop self.now.at self.now.text.now ≡ []) (λ c. drop self.now.at self.now.text.now ≡ c ∷ drop (self.now.at + 1) self.now.text.now) }
     {
-        if self.at < self.text.len() {
-            Some(char::from(self.text[self.at]))
-        } else {
-            None
-        }
+        let byte = self.text.get(self.at)?;
+        Some(char::from(*byte))
     }
 
     // Goes over the character c if it comes next.
     pub(crate) fn eat(&mut self, c: char) -> bool
-        requires { self.old.at ≤ length self.old.text.now }
         ensures { Eats c self.old self.new result }
     {
-        match self.peek() {
-            Some(d) => {
-                if d == c {
-                    self.at += 1;
-                    true
-                } else {
-                    false
-                }
-            }
-            None => false,
+        if self.peek() == Some(c) {
+            self.at += 1;
+            true
+        } else {
+            false
         }
     }
 
     // An alternative: sequences joined by |.
     #[cycle(alternative_sequence_step_unit)]
     pub(crate) fn alternative(&mut self, out: &mut Builder) -> Result<Part, usize>
-        requires { (self.old.at ≤ length self.old.text.now) × (out.old.count ≤ self.old.at + 1) }
+        requires { out.old.count ≤ self.old.at + 1 }
         ensures { Outcome Layer.alternative self.old self.new out.old out.new result }
     {
         let mut part = self.sequence(out)?;
@@ -59,7 +44,7 @@ impl Reader<'_> {
     // A sequence: steps joined by /.
     #[cycle(alternative_sequence_step_unit)]
     fn sequence(&mut self, out: &mut Builder) -> Result<Part, usize>
-        requires { (self.old.at ≤ length self.old.text.now) × (out.old.count ≤ self.old.at + 1) }
+        requires { out.old.count ≤ self.old.at + 1 }
         ensures { Outcome Layer.sequence self.old self.new out.old out.new result }
     {
         let mut part = self.step(out)?;
@@ -73,7 +58,7 @@ impl Reader<'_> {
     // A step: a unit and then any number of the signs * + ?.
     #[cycle(alternative_sequence_step_unit)]
     fn step(&mut self, out: &mut Builder) -> Result<Part, usize>
-        requires { (self.old.at ≤ length self.old.text.now) × (out.old.count ≤ self.old.at + 1) }
+        requires { out.old.count ≤ self.old.at + 1 }
         ensures { Outcome Layer.step self.old self.new out.old out.new result }
     {
         let unit = self.unit(out)?;
@@ -83,7 +68,7 @@ impl Reader<'_> {
     // A unit: a small letter, a dot, or an alternative in round brackets.
     #[cycle(alternative_sequence_step_unit)]
     fn unit(&mut self, out: &mut Builder) -> Result<Part, usize>
-        requires { (self.old.at ≤ length self.old.text.now) × (out.old.count ≤ self.old.at + 1) }
+        requires { out.old.count ≤ self.old.at + 1 }
         ensures { Outcome Layer.unit self.old self.new out.old out.new result }
     {
         let Some(c) = self.peek() else {
@@ -113,7 +98,7 @@ impl Reader<'_> {
 
     // Any number of the signs * + ?.
     fn signs(&mut self, out: &mut Builder, unit: Part) -> Part
-        requires { (self.old.at ≤ length self.old.text.now) × (out.old.count ≤ self.old.at + 1) }
+        requires { out.old.count ≤ self.old.at + 1 }
         ensures { Ahead Layer.step Layer.step self.old self.new out.old out.new unit result }
     {
         let mut part = unit;

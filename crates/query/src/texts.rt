@@ -5,27 +5,28 @@ ghost use Rattle.query.specs.Queries.{AtomTree, atom_text, inside_regex};
 ghost use Rattle.query.specs.Texts.{Judged};
 ghost use Rattle.query.specs.Readings.{Wholly};
 
+use super::cursor::Reader;
 use super::drafts::{Draft, Fault, Query, empty_atom};
-use super::reader::Reader;
 
 // The query of a text, if it is one within the limits.
 pub fn read_query(text: &[u8]) -> Result<Query, Fault>
     ensures { Judged text.now result }
 {
-    match whole(text) {
-        Ok(d) => match d.over {
-            None => {
-                let head = d.head;
-                let atoms = d.atoms;
-                Ok(Query {
-                    head,
-                    atoms,
-                    count: d.count,
-                })
-            }
-            Some(p) => Err(Fault::TooLarge(p)),
-        },
-        Err(e) => Err(Fault::NoQuery(e)),
+    let draft = match whole(text) {
+        Ok(draft) => draft,
+        Err(place) => return Err(Fault::NoQuery(place)),
+    };
+    match draft.over {
+        None => {
+            let head = draft.head;
+            let atoms = draft.atoms;
+            Ok(Query {
+                head,
+                atoms,
+                count: draft.count,
+            })
+        }
+        Some(place) => Err(Fault::TooLarge(place)),
     }
 }
 
@@ -73,25 +74,20 @@ fn sixty_fourth(text: &[u8], from: usize) -> usize
     ensures { 64 ≤ symbols (drop from text.now) → (j : ℕ) × (result ≡ from + j) × SixtyFourth (drop from text.now) j }
 {
     let mut seen: usize = 0;
-    let mut at = from;
-    while at < text.len() {
-        if is_symbol(text[at]) {
+    for (i, b) in text[from..].iter().enumerate() {
+        if is_symbol(*b) {
             if seen == 63 {
-                return at;
+                return from + i;
             }
             seen += 1;
         }
-        at += 1;
     }
-    at
+    text.len()
 }
 
 // Whether a byte is a letter or a dot.
 fn is_symbol(b: u8) -> bool
     ensures { result ≡ symbol b }
 {
-    match char::from(b) {
-        'a'..='z' | '.' => true,
-        _ => false,
-    }
+    matches!(b, b'a'..=b'z' | b'.')
 }

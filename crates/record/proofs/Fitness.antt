@@ -1,9 +1,9 @@
 -- Fitting by the places of variables is fitting by the variables.
-use Rattle.std.proofs.Common.{◌≡◌, ℕ, ◌<◌, Bool, true, false, cond, eqb, List, length, get_or, take, Some, None, Option, sym, refl, ap, ◌∙◌, subst, inl, inr, arith, length-take, get_or-take}
+use Rattle.std.proofs.Common.{◌≡◌, ℕ, ◌<◌, Bool, true, false, cond, eqb, List, length, get_or, take, Some, None, Option, IfSome, sym, refl, ap, ◌∙◌, subst, inl, inr, arith, length-take, get_or-take}
 use Rattle.std.proofs.lemmas.Bool.{both_ways, cases_eq, cases_lt}
 use Rattle.meaning.specs.Assignments.{Relations}
 use Rattle.meaning.specs.Shapes.{Atoms, Has}
-use Rattle.meaning.specs.Tuples.{node, Lowest}
+use Rattle.meaning.specs.Tuples.{node, Lowest, Within}
 use Rattle.shapes.specs.declared.checks.Ends.{Ends}
 use Rattle.shapes.specs.Checks.{of, blank, Absent}
 use Rattle.search.specs.declared.places.Places.{Places as Kept}
@@ -18,7 +18,7 @@ use Rattle.record.specs.Calls.{Fits, Fitting, atoms, head}
 
 module _ (h : List ℕ) (e : List Ends) (p : Kept) (q : Atoms) (m : ℕ) (t : Relations) (n : ℕ)
     (pl : Placed h e p) (count : length e ≡ m) (first : (c : ℕ) → c < m → (of e).first c ≡ q.first c) (second : (c : ℕ) → c < m → (of e).second c ≡ q.second c)
-    (distinct : (i j : ℕ) → i < j → j < length h → get_or h i 0 ≡ get_or h j 0 → ⊥) (root : p.root < m) where
+    (distinct : (i j : ℕ) → i < j → j < length h → get_or h i 0 ≡ get_or h j 0 → ⊥) (root : (placed p).root < m) where
   -- the first place of a variable is its only one
   only : (x i k : ℕ) → PlaceOf h x k → i < length h → get_or h i 0 ≡ x → k ≡ i
   only x i k o il hx = elim (cases_lt k i) [
@@ -32,21 +32,21 @@ module _ (h : List ℕ) (e : List Ends) (p : Kept) (q : Atoms) (m : ℕ) (t : Re
   has_from : (c x : ℕ) → c < m → Has (of e) c x → Has q c x
   has_from c x l a = elim a [ inl z ↦ inl (sym (first c l) ∙ z) | inr z ↦ inr (sym (second c l) ∙ z) ]
 
-  side : p.side ≡ eqb (get_or h 0 0) (q.first p.root)
-  side = pl.side (omega arith) ∙ ap (eqb (get_or h 0 0)) (first p.root root)
+  side : (placed p).side ≡ eqb (get_or h 0 0) (q.first (placed p).root)
+  side = pl.side (omega arith) ∙ ap (eqb (get_or h 0 0)) (first (placed p).root root)
 
   pub fits_from : (xs : List ℕ) → by_place.Fits (placed p) t n (length h) xs → Fits h q m t n xs
   fits_from xs f = record {
     within = f.within;
     pairs = λ c i j l il jl a b.
-        let ei = only ((of e).first c) i (get_or p.first c 0) (pl.first c (omega arith)) il (sym a ∙ sym (first c l)) in
-        let ej = only ((of e).second c) j (get_or p.second c 0) (pl.second c (omega arith)) jl (sym b ∙ sym (second c l)) in
-        ap (λ (z : ℕ). t c (node xs z) (node xs j)) (sym ei) ∙ ap (λ (z : ℕ). t c (node xs (get_or p.first c 0)) (node xs z)) (sym ej)
+        let ei = only ((of e).first c) i ((placed p).first c) (pl.first c (omega arith)) il (sym a ∙ sym (first c l)) in
+        let ej = only ((of e).second c) j ((placed p).second c) (pl.second c (omega arith)) jl (sym b ∙ sym (second c l)) in
+        ap (λ (z : ℕ). t c (node xs z) (node xs j)) (sym ei) ∙ ap (λ (z : ℕ). t c (node xs ((placed p).first c)) (node xs z)) (sym ej)
         ∙ f.pairs c (omega (arith, pl.count)) (omega arith) (omega arith);
     stands = λ c l has none.
-        let same : p.root ≡ c = elim (cases_lt p.root c) [
-          | inl lt ↦ absurd (none p.root lt (has_from p.root (get_or h 0 0) root (pl.root.found (omega arith))))
-          | inr ge ↦ elim (cases_eq p.root c) [ inl z ↦ z | inr z ↦ absurd (pl.root.first c (omega arith) (has_to c (get_or h 0 0) l has)) ]
+        let same : (placed p).root ≡ c = elim (cases_lt (placed p).root c) [
+          | inl lt ↦ absurd (none (placed p).root lt (has_from (placed p).root (get_or h 0 0) root (pl.root.found (omega arith))))
+          | inr ge ↦ elim (cases_eq (placed p).root c) [ inl z ↦ z | inr z ↦ absurd (pl.root.first c (omega arith) (has_to c (get_or h 0 0) l has)) ]
         ] in
         let o = f.stands in
         let F : ℕ → Type 0 = λ y. (u : ℕ) × (v : ℕ) × (t y u v ≡ true) × (cond (eqb (get_or h 0 0) (q.first y)) u v ≡ node xs 0) in
@@ -58,10 +58,10 @@ module _ (h : List ℕ) (e : List Ends) (p : Kept) (q : Atoms) (m : ℕ) (t : Re
     within = f.within;
     pairs = λ c l il jl.
         let cm : c < m = omega (arith, pl.count) in
-        f.pairs c (get_or p.first c 0) (get_or p.second c 0) cm il jl
+        f.pairs c ((placed p).first c) ((placed p).second c) cm il jl
         (sym (first c cm) ∙ sym ((pl.first c (omega arith)).found il)) (sym (second c cm) ∙ sym ((pl.second c (omega arith)).found jl));
     stands =
-        let o = f.stands p.root root (has_from p.root (get_or h 0 0) root (pl.root.found (omega arith))) (λ d l has. pl.root.first d l (has_to d (get_or h 0 0) (omega arith) has)) in
+        let o = f.stands (placed p).root root (has_from (placed p).root (get_or h 0 0) root (pl.root.found (omega arith))) (λ d l has. pl.root.first d l (has_to d (get_or h 0 0) (omega arith) has)) in
         (o.0, o.1, o.2, ap (λ (b : Bool). cond b o.0 o.1) side ∙ o.3);
   }
 
@@ -76,10 +76,10 @@ root_below e x c m long r used = elim (cases_lt c m) [ inl l ↦ l | inr g ↦ a
 pub head_long : (q : Query) → length (head q) ≡ q.parsed.query.head.count
 head_long q = omega (arith, length-take q.parsed.query.head.count q.parsed.query.head.names, head_few q.parsed q.held, names_long q.parsed q.held)
 
--- where no tuple is noted, it does not matter which
-pub lowest_fresh : (F : List ℕ → Type 0) (h : ℕ) (l l' : List ℕ) (r : Option (List ℕ)) → Lowest F h false l r → Lowest F h false l' r
-lowest_fresh F h l l' (Some xs) k = record { fits = k.fits; above = λ e. absurd (both_ways false refl e); least = λ ys f ab. k.least ys f (λ e. absurd (both_ways false refl e)) }
-lowest_fresh F h l l' None k = λ ys f ab. k ys f (λ e. absurd (both_ways false refl e))
+-- the last tuple that a record notes is of nodes
+pub inside_last : (q : Query) (n h : ℕ) → n ≡ q.nodes → h ≡ q.parsed.query.head.count → (o : Option (List ℕ)) → q.last ≡ o → IfSome o (Within n h)
+inside_last q n h en eh None e = tt
+inside_last q n h en eh (Some t) e = λ i l. omega (arith, en, q.inside t i (e, omega (arith, l, eh)))
 
 -- what the code finds in a record's query
 module _ (q : Query) (e : List Ends) (long : length e ≡ 8) (each : (d : Ends) (i : ℕ) → i < 8 → get_or e i d ≡ pair (get_or q.parsed.query.atoms i no_atom)) where
@@ -101,19 +101,21 @@ module _ (q : Query) (e : List Ends) (long : length e ≡ 8) (each : (d : Ends) 
   pair_at : (c : ℕ) → c < m → get_or k c blank ≡ pair (get_or q.parsed.query.atoms c no_atom)
   pair_at c l = get_or-take m e c blank l ∙ each blank c (omega (arith, count_few q.parsed q.held))
 
-  pub root_here : (p : Kept) → Placed (head q) k p → p.root < m
+  pub root_here : (p : Kept) → Placed (head q) k p → (placed p).root < m
   root_here p pl =
-      root_below k (get_or (head q) 0 0) p.root m pairs_long pl.root
+      root_below k (get_or (head q) 0 0) (placed p).root m pairs_long pl.root
       (λ absent. start_used q.parsed q.held e long each (subst (Absent k) (head_at 0 (head_some q.parsed q.held)) absent))
 
-  pub lowest_here : (p : Kept) → Placed (head q) k p → (s : List ℕ) (w : ℕ) → w ≡ width q.nodes → (noted : Bool) (last : List ℕ) (r : Option (List ℕ))
-      → Lowest (by_place.Fits (placed p) (tables s p.atoms q.nodes w) q.nodes h) h noted last r → Lowest (Fitting q s) (length (head q)) noted last r
-  lowest_here p pl s w ew noted last r l =
-      let P = λ (a y z : ℕ). Lowest (by_place.Fits (placed p) (tables s a q.nodes y) q.nodes z) z noted last r in
-      let l₁ = subst (λ (y : ℕ). P y w h) (pl.count ∙ pairs_long) l in
-      let l₂ = subst (λ (y : ℕ). P m y h) ew l₁ in
-      let l₃ = subst (λ (y : ℕ). P m (width q.nodes) y) (sym (head_long q)) l₂ in
+  -- the places and the rows are those of the record
+  pub lowest_here : (p : Kept) → Placed (head q) k p → (s : List ℕ) (n w : ℕ) → n ≡ q.nodes → w ≡ width q.nodes → (noted : Bool) (last : List ℕ) (r : Option (List ℕ))
+      → Lowest (by_place.Fits (placed p) (tables s p.atoms n w) n p.free) p.free noted last r → Lowest (Fitting q s) (length (head q)) noted last r
+  lowest_here p pl s n w nodes wide noted last r l =
+      let P = λ (a x y z : ℕ). Lowest (by_place.Fits (placed p) (tables s a x y) x z) z noted last r in
+      let l₁ = subst (λ (y : ℕ). P y n w p.free) (pl.count ∙ pairs_long) l in
+      let l₂ = subst (λ (y : ℕ). P m y w p.free) nodes l₁ in
+      let l₃ = subst (λ (y : ℕ). P m q.nodes y p.free) wide l₂ in
+      let l₄ = subst (λ (y : ℕ). P m q.nodes (width q.nodes) y) pl.free l₃ in
       lowest_from (head q) k p (atoms q) m (tables s m q.nodes (width q.nodes)) q.nodes pl pairs_long
       (λ c b. ap (λ (y : Ends). y.first) (pair_at c b)) (λ c b. ap (λ (y : Ends). y.second) (pair_at c b))
       (λ i j ij jl same. let hl = head_long q in head_distinct q.parsed q.held i j ij (omega arith) (sym (head_at i (omega arith)) ∙ same ∙ head_at j (omega arith)))
-      (root_here p pl) noted last r l₃
+      (root_here p pl) noted last r l₄

@@ -9,7 +9,7 @@ use Rattle.meaning.specs.Assignments.{Relations}
 use Rattle.meaning.specs.Graphs.{Graph}
 use Rattle.meaning.specs.Listings.{Outcome, gave, ended, given, AboveNewest, Gives, Nexts, Whole}
 use Rattle.meaning.specs.Shapes.{Atoms, Has, Joins}
-use Rattle.meaning.specs.Tuples.{Lower, Above}
+use Rattle.meaning.specs.Tuples.{Lower, Above, last_of, noted_of}
 use Rattle.meaning.proofs.Listing.{whole_from}
 use Rattle.shapes.specs.declared.checks.Ends.{Ends}
 use Rattle.shapes.specs.Checks.{of, blank}
@@ -31,7 +31,7 @@ use Rattle.record.specs.declared.records.Query.{Query}
 use Rattle.record.specs.Calls as calls
 use Rattle.record.specs.declared.records.Listing.{Listing}
 use Rattle.record.specs.declared.records.Opened.{Opened}
-use Rattle.record.specs.Calls.{Calibrated, Calibrates, Fits, Fitting, Gave, Unchanged, atoms, head, last_of, noted_of}
+use Rattle.record.specs.Calls.{Calibrated, Calibrates, Fits, Fitting, Gave, Unchanged, atoms, head}
 use Rattle.record.specs.Listing.{Notes, Lists, GoesOn, Begins}
 use Rattle.record.proofs.Answering.{answers_from, answers_to}
 use Rattle.record.proofs.Fitness.{head_long}
@@ -86,7 +86,7 @@ module _ (q : Query) (xs : List ℕ) (a : Accepted xs q.parsed) where
     pub fitting_answers : (ys : List ℕ) → Fitting q s ys ↔ Answer g (meaning a.head a.atoms) ys
     fitting_answers ys =
         let Q = meaning a.head a.atoms in
-        let R = ranks q.parsed.order.at q.parsed.order.rank q.parsed.order.parent q.parsed.order.shared q.parsed.order.fresh in
+        let R = ranks q.parsed.order in
         let x = get_or (names a.head) 0 0 in
         let long = ends_long a.atoms in
         let distinct = λ (i j : ℕ) (ij : i < j) (jl : j < length (names a.head)) (e : get_or (names a.head) i 0 ≡ get_or (names a.head) j 0). a.shape.0 j jl (i, ij, e) in

@@ -2,3 +2,4 @@ pub mod Newness
 pub mod Fitness
 pub mod Answering
 pub mod Going
+pub mod Copies

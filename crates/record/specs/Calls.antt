@@ -7,13 +7,12 @@
 --     Fitting q s xs      xs fits the workspace s, for the query and the number of nodes that the record q notes
 --     Calibrates g q s r q' t    calibrate with the graph g
 --     Nexts q s out r q' out'    next
---     noted q, last q     whether the record notes a last tuple, and which
 use Rattle.std.specs.Prelude.{◌≡◌, ℕ, ◌+◌, ◌*◌, ◌<◌, ◌≤◌, Bool, true, false, List, [], length, take, Some, None, Ok, Err, Option, Result, slice_index, slice_index_or}
 use Rattle.bits.specs.Rows.{width}
 use Rattle.meaning.specs.Assignments.{Relations}
 use Rattle.meaning.specs.Graphs.{Graph}
 use Rattle.meaning.specs.Shapes.{Atoms, Has}
-use Rattle.meaning.specs.Tuples.{node, Within, Above, Least}
+use Rattle.meaning.specs.Tuples.{node, Within, Above, Least, noted_of, last_of}
 use Rattle.joins.specs.Layouts.{tables}
 use Rattle.joins.specs.Plans.{Occurs}
 use Rattle.parse.specs.Meanings.{meaning}
@@ -59,14 +58,6 @@ abbrev pub Calibrates : Graph → Query → List ℕ → Result Listing (Opened 
 Calibrates g q s (Ok _) q' t = Calibrated g q s q' t
 Calibrates g q s (Err (_, ShortWorkspace)) q' t = (length s < needed q.parsed.query.count g.nodes) × (q' ≡ q) × (t ≡ s)
 Calibrates g q s (Err (_, ShortAnswer)) q' t = ⊥
-
-abbrev pub noted_of : Option (List ℕ) → Bool
-noted_of (Some t) = true
-noted_of None = false
-
-abbrev pub last_of : Option (List ℕ) → List ℕ
-last_of (Some t) = t
-last_of None = []
 
 -- the lowest fitting tuple above the last one is written and noted; nothing else of the answer list and of the record changes
 pub record Gave (q : Query) (s out : List ℕ) (q' : Query) (out' : List ℕ) : Type 0 where

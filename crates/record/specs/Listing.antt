@@ -17,7 +17,8 @@ use Rattle.query.specs.Limits.{number}
 use Rattle.query.specs.Queries.{names}
 use Rattle.record.specs.declared.calls.Fault.{Fault}
 use Rattle.record.specs.declared.records.Query.{Query}
-use Rattle.record.specs.Calls.{Fitting, head, last_of}
+use Rattle.meaning.specs.Tuples.{last_of}
+use Rattle.record.specs.Calls.{Fitting, head}
 
 abbrev pub Notes : Option (List ℕ) → List (List ℕ) → Type 0
 Notes o [] = o ≡ None

@@ -1,21 +1,21 @@
-ghost use Rattle.std.specs.Prelude.{◌≡◌, ◌≤◌, true, length, OnOk};
-ghost use Rattle.meaning.specs.Tuples.{Lowest, Within};
+ghost use Rattle.std.specs.Prelude.{◌≡◌, ◌≤◌, length, OnOk};
+ghost use Rattle.meaning.specs.Tuples.{Lowest, last_of, noted_of};
 ghost use Rattle.bits.specs.Rows.{width as words_of};
-ghost use Rattle.record.specs.Calls.{Calibrates, Fitting, Nexts, head, last_of, noted_of};
+ghost use Rattle.record.specs.Calls.{Calibrates, Fitting, Nexts, head};
 ghost use Rattle.record.specs.Listing.{Begins, GoesOn};
 ghost use Rattle.record.specs.Records.{Newly, new_text};
 ghost use Rattle.record.specs.Calls.{needed as words-needed};
 
 use super::records::{Blank, Listing, Opened, Query};
-use bits::width;
+use bits::{Rows, width};
 use engine::fill_tables;
 use graph::Graph;
 use meaning::NodeId;
 use parse::ends;
-use search::{find_places, lowest};
+use search::{Tables, find_places, lowest};
 
 // Why calibrate or next is refused.
-#[derive(Clone, Copy)]
+#[derive(Clone, Copy, Debug, PartialEq, Eq)]
 pub enum Fault {
     // The workspace is shorter than the query's atoms and the graph's nodes need.
     ShortWorkspace,
@@ -51,35 +51,22 @@ fn prepare<G: Graph>(
     Ok(Listing(()))
 }
 
-// The lowest tuple that fits the workspace, above `last` if that is noted.
-fn lowest_above(
-    query: &Query,
-    words: &[u64],
-    noted: bool,
-    last: &[NodeId; 26],
-) -> Option<[NodeId; 26]>
-    requires room { words-needed query.now.parsed.query.count query.now.nodes ≤ length words.now }
-    requires inside { noted ≡ true → Within query.now.nodes query.now.parsed.query.head.count last.now }
-    ensures { Lowest (Fitting query.now words.now) (length (head query.now)) noted last.now result }
-{
-    let n = query.nodes;
-    let h = query.parsed.query.head.count;
-    let m = query.parsed.query.count;
-    let pairs = ends(&query.parsed.query.atoms);
-    let names = query.parsed.query.head.names;
-    let places = find_places(&names[..h], &pairs[..m]);
-    lowest(words, &places, n, width(n as usize), h, noted, last)
-}
-
 // The lowest tuple that fits the workspace, above the last one that the record notes.
 fn lowest_fitting(query: &Query, words: &[u64]) -> Option<[NodeId; 26]>
     requires room { words-needed query.now.parsed.query.count query.now.nodes ≤ length words.now }
     ensures { Lowest (Fitting query.now words.now) (length (head query.now)) (noted_of query.now.last) (last_of query.now.last) result }
 {
-    match query.last {
-        Some(last) => lowest_above(query, words, true, &last),
-        None => lowest_above(query, words, false, &[0; 26]),
-    }
+    let h = query.parsed.query.head.count;
+    let m = query.parsed.query.count;
+    let pairs = ends(&query.parsed.query.atoms);
+    let names = query.parsed.query.head.names;
+    let places = find_places(&names[..h], &pairs[..m]);
+    let tables = Tables {
+        words,
+        places: &places,
+        rows: Rows::of(query.nodes as usize),
+    };
+    lowest(&tables, query.last)
 }
 
 // Writes the lowest tuple that fits the workspace above the last one, and notes it; or answers false, and writes nothing.
@@ -96,9 +83,7 @@ fn advance(query: &mut Query, words: &[u64], answer: &mut [NodeId]) -> Result<bo
     match lowest_fitting(query, words) {
         None => Ok(false),
         Some(tuple) => {
-            for i in 0..h {
-                answer[i] = tuple[i];
-            }
+            answer[..h].copy_from_slice(&tuple[..h]);
             query.last = Some(tuple);
             Ok(true)
         }

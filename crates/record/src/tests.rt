@@ -2,21 +2,17 @@
 use super::calls::{Fault, calibrate, next};
 use super::opening::open;
 use super::records::{Blank, Listing, Opened, Query};
-use graph::{Edge, EdgeList, Graph, Sizes};
+use graph::{Edge, EdgeList, Graph, ListSizes};
 use meaning::NodeId;
 use std::process::Abort;
 use std::test::Fail;
 
-// The number of atoms that the record has after open, or 1000 times the number of the refusal and its place.
-fn answer(text: &[u8]) -> usize {
+// The number of atoms that the record has after open, or the number of the refusal and its place.
+fn answer(text: &[u8]) -> Result<usize, (u8, usize)> {
     let (mut query, state) = Query::new();
     match open(state, &mut query, text) {
-        Ok(Opened(_)) => query.parsed.query.count,
-        Err((Blank(_), refusal)) => {
-            refusal
-                .place()
-                .saturating_add(1000 * refusal.number() as usize)
-        }
+        Ok(Opened(_)) => Ok(query.parsed.query.count),
+        Err((Blank(_), refusal)) => Err((refusal.number(), refusal.place())),
     }
 }
 
@@ -32,9 +28,9 @@ fn new_record(rt: HostRuntime) {
 
 #[test]
 fn opened_or_refused(rt: HostRuntime) {
-    assert_eq!(rt; answer(b"AB:A[p/r*/k]B,B[c+]C"), 2);
-    assert_eq!(rt; answer(b""), 5000);
-    assert_eq!(rt; answer(b"AC:A[a]B,B[a]C"), 11001);
+    assert_eq!(rt; answer(b"AB:A[p/r*/k]B,B[c+]C"), Ok(2));
+    assert_eq!(rt; answer(b""), Err((5, 0)));
+    assert_eq!(rt; answer(b"AC:A[a]B,B[a]C"), Err((11, 1)));
 }
 
 fn put_all<G: Graph>(graph: &mut G, edges: &[(u16, u8, u16)]) {
@@ -48,9 +44,16 @@ fn put_all<G: Graph>(graph: &mut G, edges: &[(u16, u8, u16)]) {
     }
 }
 
-// What the calls gave of a query over the graph of five nodes: the tuples, each as one number with a digit for a node, then 9 at the end; 12 where calibrate was refused.
-fn listed(text: &[u8], words: &mut [u64], out: &mut [u32]) -> Result<usize, Fail> {
-    let Ok(sizes) = Sizes::new(5, 3) else {
+// An answer list, as the calls leave it.
+type Answer = [NodeId; 4];
+
+// How many answers the calls gave of a query over the graph of five nodes, or why calibrate was refused.
+fn listed(
+    text: &[u8],
+    words: &mut [u64],
+    out: &mut [Answer],
+) -> Result<Result<usize, Fault>, Fail> {
+    let Ok(sizes) = ListSizes::new(5, 3) else {
         return Err(Fail::new("sizes"));
     };
     let mut memory = [Edge {
@@ -79,29 +82,25 @@ fn listed(text: &[u8], words: &mut [u64], out: &mut [u32]) -> Result<usize, Fail
         Ok(listing) => {
             let given = drain(&listing, &mut query, words, out);
             let Blank(_) = listing.close(&mut query);
-            given
+            Ok(Ok(given?))
         }
         Err((opened, fault)) => {
             let Blank(_) = opened.close(&mut query);
-            match fault {
-                Fault::ShortWorkspace => Ok(12),
-                Fault::ShortAnswer => Ok(13),
-            }
+            Ok(Err(fault))
         }
     }
 }
 
-// Calls next until it answers the end, and counts the tuples.
+// Calls next until it answers the end, and counts the answers.
 fn drain(
     listing: &Listing,
     query: &mut Query,
     words: &[u64],
-    out: &mut [u32],
+    out: &mut [Answer],
 ) -> Result<usize, Fail> {
-    for i in 0..out.len() {
-        let mut answer: [NodeId; 4] = [7; 4];
-        match next(listing, query, words, &mut answer) {
-            Ok(true) => out[i] = u32::from(answer[0]) * 1000 + u32::from(answer[1]),
+    for (i, answer) in out.iter_mut().enumerate() {
+        match next(listing, query, words, answer) {
+            Ok(true) => {}
             Ok(false) => return Ok(i),
             Err(_) => return Err(Fail::new("next")),
         }
@@ -109,52 +108,66 @@ fn drain(
     Err(Fail::new("too many"))
 }
 
-fn same(out: &[u32], expected: &[u32]) -> bool {
-    if out.len() < expected.len() {
-        return false;
-    }
-    for i in 0..expected.len() {
-        if out[i] != expected[i] {
-            return false;
-        }
-    }
-    true
-}
-
-fn check_list(rt: &impl Abort, text: &[u8], expected: &[u32]) -> Result<(), Fail> {
+fn check_list(rt: &impl Abort, text: &[u8], expected: &[Answer]) -> Result<(), Fail> {
     let mut words = [u64::MAX; 60];
-    let mut out = [0; 20];
+    let mut out = [[7; 4]; 20];
     let given = listed(text, &mut words, &mut out)?;
-    assert_eq!(rt; given, expected.len());
-    assert!(rt; same(&out, expected));
+    assert_eq!(rt; given, Ok(expected.len()));
+    assert!(rt; expected.len() <= 20);
+    assert!(rt; &out[..expected.len()] == expected);
     Ok(())
 }
 
-// The answer list is 7 past the head.
+// The answer list stays 7 past the head.
 #[test]
 fn listings(rt: HostRuntime) -> Result<(), Fail> {
-    check_list(&rt, b"XY:X[a/b]Y", &[3, 1003, 4003])?;
-    check_list(&rt, b"XY:X[a/b|c]Y", &[3, 1003, 3000, 4003])?;
+    check_list(
+        &rt,
+        b"XY:X[a/b]Y",
+        &[[0, 3, 7, 7], [1, 3, 7, 7], [4, 3, 7, 7]],
+    )?;
+    check_list(
+        &rt,
+        b"XY:X[a/b|c]Y",
+        &[[0, 3, 7, 7], [1, 3, 7, 7], [3, 0, 7, 7], [4, 3, 7, 7]],
+    )?;
     check_list(
         &rt,
         b"XY:X[a*]Y",
-        &[0, 1, 2, 1001, 1002, 2002, 3003, 4002, 4004],
+        &[
+            [0, 0, 7, 7],
+            [0, 1, 7, 7],
+            [0, 2, 7, 7],
+            [1, 1, 7, 7],
+            [1, 2, 7, 7],
+            [2, 2, 7, 7],
+            [3, 3, 7, 7],
+            [4, 2, 7, 7],
+            [4, 4, 7, 7],
+        ],
     )?;
-    check_list(&rt, b"YX:X[a]Y,Y[b]Z", &[1000, 2001, 2004])?;
-    check_list(&rt, b"X:X[a]Y,Y[a]Z", &[7])?;
+    check_list(
+        &rt,
+        b"YX:X[a]Y,Y[b]Z",
+        &[[1, 0, 7, 7], [2, 1, 7, 7], [2, 4, 7, 7]],
+    )?;
+    check_list(&rt, b"X:X[a]Y,Y[a]Z", &[[0, 7, 7, 7]])?;
     check_list(&rt, b"XY:X[a]Y,Y[c]Z", &[])
 }
 
 // Two atoms over five nodes take 20 words: 2 × 5 × 1 of tables and 2 × 5 of scratch.
 #[test]
 fn workspaces(rt: HostRuntime) -> Result<(), Fail> {
-    let mut out = [0; 4];
+    let mut out = [[7; 4]; 4];
     let mut short = [u64::MAX; 19];
-    assert_eq!(rt; listed(b"X:X[a]Y,Y[a]Z", &mut short, &mut out)?, 12);
+    assert_eq!(rt;
+        listed(b"X:X[a]Y,Y[a]Z", &mut short, &mut out)?,
+        Err(Fault::ShortWorkspace)
+    );
     assert_eq!(rt; short[0], u64::MAX);
     let mut words = [u64::MAX; 20];
-    let mut given = [0; 4];
-    assert_eq!(rt; listed(b"X:X[a]Y,Y[a]Z", &mut words, &mut given)?, 1);
+    let mut given = [[7; 4]; 4];
+    assert_eq!(rt; listed(b"X:X[a]Y,Y[a]Z", &mut words, &mut given)?, Ok(1));
     assert_eq!(rt; words[0], 2);
     assert_eq!(rt; words[6], 4);
     assert_eq!(rt; words[10], 0);

@@ -1,44 +1,34 @@
-ghost use Rattle.std.specs.Prelude.{◌≡◌, ◌*◌, ◌<◌, ◌≤◌, true, length};
-ghost use Rattle.meaning.specs.Tuples.{Lowest, Within};
-ghost use Rattle.joins.specs.Layouts.{tables};
-ghost use Rattle.search.specs.Heads.{placed};
+ghost use Rattle.std.specs.Prelude.{◌<◌, ◌≤◌, IfSome};
+ghost use Rattle.meaning.specs.Tuples.{Lowest, Within, noted_of, last_of};
+ghost use Rattle.search.specs.Heads.{placed, relations};
 ghost use Rattle.search.specs.Places.{Fits};
 
-use super::fitting::goes;
-use super::places::Places;
+use super::tables::Tables;
 use meaning::NodeId;
 
-// The lowest tuple of h nodes below n that fits the tables, above `last` if that is noted.
-pub fn lowest(
-    words: &[u64],
-    places: &Places,
-    n: NodeId,
-    w: usize,
-    h: usize,
-    noted: bool,
-    last: &[NodeId; 26],
-) -> Option<[NodeId; 26]>
-    requires head { (0 < h) × (h ≤ 26) }
-    requires nodes { (n ≤ 1024) × (n ≤ w * 64) }
-    requires inside { noted ≡ true → Within n h last.now }
-    requires room { places.now.atoms * (n * w) ≤ length words.now }
-    requires atoms { (places.now.root < places.now.atoms) × (places.now.atoms ≤ 8) }
-    ensures { Lowest (Fits (placed places.now) (tables words.now places.now.atoms n w) n h) h noted last.now result }
+// The lowest tuple of nodes that fits the tables, above `last` if there is one.
+pub fn lowest(tables: &Tables, last: Option<[NodeId; 26]>) -> Option<[NodeId; 26]>
+    requires head { (0 < tables.now.places.now.free) × (tables.now.places.now.free ≤ 26) }
+    requires nodes { tables.now.rows.count ≤ 1024 }
+    requires inside { IfSome last (Within tables.now.rows.count tables.now.places.now.free) }
+    ensures { Lowest (Fits (placed tables.now.places.now) (relations tables.now) tables.now.rows.count tables.now.places.now.free) tables.now.places.now.free (noted_of last) (last_of last) result }
 {
+    let nodes = tables.rows.count;
+    let free = tables.places.free;
     let mut cur: [NodeId; 26] = [0; 26];
     let mut at: usize = 0;
-    if noted {
-        cur = *last;
-        while at + 1 < h && goes(words, places, n as usize, w, at, &cur) {
+    if let Some(tuple) = last {
+        cur = tuple;
+        while at + 1 < free && tables.goes(at, &tuple) {
             at += 1;
         }
         cur[at] += 1;
     }
-    let found = 'search: loop {
-        while cur[at] < n {
-            if goes(words, places, n as usize, w, at, &cur) {
-                if at + 1 == h {
-                    break 'search true;
+    'search: loop {
+        while (cur[at] as usize) < nodes {
+            if tables.goes(at, &cur) {
+                if at + 1 == free {
+                    break 'search Some(cur);
                 }
                 at += 1;
                 cur[at] = 0;
@@ -47,10 +37,9 @@ pub fn lowest(
             cur[at] += 1;
         }
         if at == 0 {
-            break 'search false;
+            break 'search None;
         }
         at -= 1;
         cur[at] += 1;
-    };
-    if found { Some(cur) } else { None }
+    }
 }

@@ -1,8 +1,10 @@
-ghost use Rattle.std.specs.Prelude.{◌≡◌, ℕ, ◌<◌, ◌≤◌, true, ◌⊎◌, length, Some, None, Decides, slice_index};
+ghost use Rattle.std.specs.Prelude.{◌≡◌, ℕ, ◌<◌, ◌≤◌, true, ◌⊎◌, length, Some, None, Ok, Err, Decides, slice_index};
 ghost use Rattle.shapes.specs.Classes.{Classes, Merged};
 ghost use Rattle.meaning.specs.Firsts.{FirstAt};
 ghost use Rattle.meaning.specs.Shapes.{Has, Joins};
 ghost use Rattle.shapes.specs.Checks.{of, Repeated, Unused, Cyclic, Unconnected, Alone};
+
+use std::array;
 
 // The two variables of an atom, by their bytes in the text.
 #[derive(Clone, Copy)]
@@ -11,90 +13,76 @@ pub struct Ends {
     pub second: u8,
 }
 
+impl Ends {
+    // Whether x is one of the two.
+    pub fn has(self, x: u8) -> bool
+        ensures { Decides result ((self.first ≡ x) ⊎ (self.second ≡ x)) }
+    {
+        self.first == x || self.second == x
+    }
+
+    // Whether the two are x and y, in either order.
+    fn joins(self, x: u8, y: u8) -> bool
+        ensures { Decides result (((self.first ≡ x) × (self.second ≡ y)) ⊎ ((self.first ≡ y) × (self.second ≡ x))) }
+    {
+        self.first == x && self.second == y || self.first == y && self.second == x
+    }
+}
+
 // Whether one of the first n variables of the head is x.
 fn stands(head: &[u8], n: usize, x: u8) -> bool
     requires { n ≤ length head.now }
     ensures { Decides result ((j : ℕ) × (j < n) × (slice_index head.now j ≡ x)) }
 {
-    for j in 0..n {
-        if head[j] == x {
-            return true;
-        }
-    }
-    false
+    head[..n].contains(&x)
 }
 
 // The first place of the head whose variable stands before it too.
 pub(crate) fn first_repeated(head: &[u8]) -> Option<usize>
     ensures { FirstAt (Repeated head.now) (length head.now) result }
 {
-    for (i, x) in head.iter().enumerate() {
-        if stands(head, i, *x) {
-            return Some(i);
-        }
-    }
-    None
+    (0..head.len()).find(|i| stands(head, *i, head[*i]))
 }
 
 // Whether some atom has the variable x.
 fn used(atoms: &[Ends], x: u8) -> bool
     ensures { Decides result ((c : ℕ) × (c < length atoms.now) × Has (of atoms.now) c x) }
 {
-    for a in atoms {
-        if a.first == x || a.second == x {
-            return true;
-        }
-    }
-    false
+    atoms.iter().any(|a| a.has(x))
 }
 
 // The first place of the head whose variable is in no atom.
 pub(crate) fn first_unused(atoms: &[Ends], head: &[u8]) -> Option<usize>
     ensures { FirstAt (Unused atoms.now head.now) (length head.now) result }
 {
-    for (i, x) in head.iter().enumerate() {
-        if !used(atoms, *x) {
-            return Some(i);
-        }
-    }
-    None
-}
-
-// Each variable in a class of its own.
-fn singles(class: &mut [usize; 256])
-    ensures { (v : ℕ) → v < 256 → slice_index class.new v ≡ v }
-{
-    for v in 0..256 {
-        class[v] = v;
-    }
+    head.iter().position(|x| !used(atoms, *x))
 }
 
 // Makes the class `from` a part of the class `into`.
 fn merge(class: &mut [usize; 256], from: usize, into: usize)
     ensures { Merged class.old class.new from into }
 {
-    for v in 0..256 {
-        if class[v] == from {
-            class[v] = into;
+    for c in class.iter_mut() {
+        if *c == from {
+            *c = into;
         }
     }
 }
 
-// The first atom that makes a cycle with those before it. Where there is none, `class` tells which variables are connected.
-pub(crate) fn first_cyclic(atoms: &[Ends], class: &mut [usize; 256]) -> Option<usize>
-    ensures cyclic { FirstAt (Cyclic atoms.now) (length atoms.now) result }
-    ensures classes { result ≡ None → Classes (of atoms.now) (length atoms.now) class.new }
+// A class for each variable, equal for two just if the atoms connect them; or the first atom that makes a cycle with those before it.
+pub(crate) fn classes(atoms: &[Ends]) -> Result<[usize; 256], usize>
+    ensures { elim result [ Ok class ↦ FirstAt (Cyclic atoms.now) (length atoms.now) None × Classes (of atoms.now) (length atoms.now) class | Err i ↦ FirstAt (Cyclic atoms.now) (length atoms.now) (Some i) ] }
 {
-    singles(class);
+    let mut class = array::from_fn(|v| v);
     for (i, a) in atoms.iter().enumerate() {
         let x = class[a.first as usize];
         let y = class[a.second as usize];
         if x == y {
-            return Some(i);
+            return Err(i);
         }
-        merge(class, x, y);
+        merge(&mut class, x, y);
     }
-    None
+    Ok(class)
 }
 
 // The first atom whose variables are not connected to the first atom's.
@@ -102,31 +90,14 @@ pub(crate) fn first_unconnected(atoms: &[Ends], class: &[usize; 256]) -> Option<
     requires { Classes (of atoms.now) (length atoms.now) class.now }
     ensures { FirstAt (Unconnected atoms.now) (length atoms.now) result }
 {
-    for (i, a) in atoms.iter().enumerate() {
-        if class[a.first as usize] != class[atoms[0].first as usize] {
-            return Some(i);
-        }
-    }
-    None
+    atoms.iter().position(|a| class[a.first as usize] != class[atoms[0].first as usize])
 }
 
 // Whether some atom has the variables x and y.
 fn shared(atoms: &[Ends], x: u8, y: u8) -> bool
     ensures { Decides result ((c : ℕ) × (c < length atoms.now) × Joins (of atoms.now) c x y) }
 {
-    for a in atoms {
-        if joins(*a, x, y) {
-            return true;
-        }
-    }
-    false
-}
-
-// Whether an atom has the variables x and y.
-fn joins(a: Ends, x: u8, y: u8) -> bool
-    ensures { Decides result (((a.first ≡ x) × (a.second ≡ y)) ⊎ ((a.first ≡ y) × (a.second ≡ x))) }
-{
-    a.first == x && a.second == y || a.first == y && a.second == x
+    atoms.iter().any(|a| a.joins(x, y))
 }
 
 // Whether the variable at i of the head shares an atom with an earlier one.
@@ -134,22 +105,12 @@ fn linked(atoms: &[Ends], head: &[u8], i: usize) -> bool
     requires { i < length head.now }
     ensures { Decides result ((j : ℕ) × (c : ℕ) × (j < i) × (c < length atoms.now) × Joins (of atoms.now) c (slice_index head.now j) (slice_index head.now i)) }
 {
-    for j in 0..i {
-        if shared(atoms, head[j], head[i]) {
-            return true;
-        }
-    }
-    false
+    head[..i].iter().any(|x| shared(atoms, *x, head[i]))
 }
 
 // The first place of the head after its start whose variable shares no atom with an earlier one.
 pub(crate) fn first_alone(atoms: &[Ends], head: &[u8]) -> Option<usize>
     ensures { FirstAt (Alone atoms.now head.now) (length head.now) result }
 {
-    for i in 1..head.len() {
-        if !linked(atoms, head, i) {
-            return Some(i);
-        }
-    }
-    None
+    (1..head.len()).find(|i| !linked(atoms, head, *i))
 }

@@ -1,12 +1,10 @@
 ghost use Rattle.std.specs.Prelude.{◌≡◌};
 ghost use Rattle.shapes.specs.Verdicts.{Verdict, number};
 
-use super::checks::{
-    Ends, first_alone, first_cyclic, first_repeated, first_unconnected, first_unused,
-};
+use super::checks::{Ends, classes, first_alone, first_repeated, first_unconnected, first_unused};
 
 // What is wrong with the shape of a query: a place of the head, or the number of an atom, from 0.
-#[derive(Clone, Copy)]
+#[derive(Clone, Copy, Debug, PartialEq, Eq)]
 pub enum Fault {
     // The variable at this place stands in the head before.
     RepeatedVariable(usize),
@@ -45,10 +43,10 @@ pub fn check_shape(head: &[u8], atoms: &[Ends]) -> Result<(), Fault>
     if let Some(i) = first_unused(atoms, head) {
         return Err(Fault::UnusedVariable(i));
     }
-    let mut class = [0; 256];
-    if let Some(i) = first_cyclic(atoms, &mut class) {
-        return Err(Fault::CyclicAtom(i));
-    }
+    let class = match classes(atoms) {
+        Ok(class) => class,
+        Err(i) => return Err(Fault::CyclicAtom(i)),
+    };
     if let Some(i) = first_unconnected(atoms, &class) {
         return Err(Fault::UnconnectedAtom(i));
     }

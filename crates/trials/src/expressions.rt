@@ -4,29 +4,26 @@ use bits::{has, marked};
 use query::read_expression;
 use std::test::*;
 
-// The number of positions of an expression, or 1000 and the place where it goes wrong.
-fn answer(text: &[u8]) -> usize {
-    match read_expression(text) {
-        Ok(automaton) => automaton.size,
-        Err(place) => place.saturating_add(1000),
-    }
+// The number of positions of an expression, or the place where it goes wrong.
+fn answer(text: &[u8]) -> Result<usize, usize> {
+    read_expression(text).map(|automaton| automaton.size)
 }
 
 #[test]
 fn texts_and_places(rt: HostRuntime) -> Result<(), Fail> {
-    assert!(rt; answer(b"a") == 1);
-    assert!(rt; answer(b"p/r*/k") == 3);
-    assert!(rt; answer(b"(a|b/c)*+?") == 3);
-    assert!(rt; answer(b".") == 1);
-    assert!(rt; answer(b"") == 1000);
-    assert!(rt; answer(b"|a") == 1000);
-    assert!(rt; answer(b"a|") == 1002);
-    assert!(rt; answer(b"a//b") == 1002);
-    assert!(rt; answer(b"(a") == 1002);
-    assert!(rt; answer(b"a)") == 1001);
-    assert!(rt; answer(b"()") == 1001);
-    assert!(rt; answer(b"a*b") == 1002);
-    assert!(rt; answer(b"A") == 1000);
+    assert_eq!(rt; answer(b"a"), Ok(1));
+    assert_eq!(rt; answer(b"p/r*/k"), Ok(3));
+    assert_eq!(rt; answer(b"(a|b/c)*+?"), Ok(3));
+    assert_eq!(rt; answer(b"."), Ok(1));
+    assert_eq!(rt; answer(b""), Err(0));
+    assert_eq!(rt; answer(b"|a"), Err(0));
+    assert_eq!(rt; answer(b"a|"), Err(2));
+    assert_eq!(rt; answer(b"a//b"), Err(2));
+    assert_eq!(rt; answer(b"(a"), Err(2));
+    assert_eq!(rt; answer(b"a)"), Err(1));
+    assert_eq!(rt; answer(b"()"), Err(1));
+    assert_eq!(rt; answer(b"a*b"), Err(2));
+    assert_eq!(rt; answer(b"A"), Err(0));
     Ok(())
 }
 
@@ -39,12 +36,9 @@ fn reads(symbol: Symbol, labels: u8, label: u8) -> bool {
 
 fn step(automaton: &Automaton, labels: u8, states: u64, label: u8) -> u64 {
     let mut next = 0;
-    for p in 0..64 {
-        for q in 0..64 {
-            if has(states, p)
-                && has(automaton.follow[p], q)
-                && reads(automaton.symbols[q], labels, label)
-            {
+    for (p, follow) in automaton.follow.iter().enumerate() {
+        for (q, symbol) in automaton.symbols.iter().enumerate() {
+            if has(states, p) && has(*follow, q) && reads(*symbol, labels, label) {
                 next = marked(next, q);
             }
         }
@@ -86,7 +80,7 @@ const A63: &[u8] =
 
 #[test]
 fn sixty_three_positions(rt: HostRuntime) -> Result<(), Fail> {
-    assert!(rt; answer(A63) == 63);
+    assert_eq!(rt; answer(A63), Ok(63));
     assert!(rt; has_word(A63, &[0; 63]));
     assert!(rt; !has_word(A63, &[0; 62]));
     Ok(())

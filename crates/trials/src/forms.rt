@@ -32,42 +32,36 @@ const CA: Ends = Ends {
     second: b'A',
 };
 
-// 0 where nothing is wrong, else the number times 100 and the place.
-fn answer(head: &[u8], atoms: &[Ends]) -> usize {
-    match check_shape(head, atoms) {
-        Ok(_) => 0,
-        Err(Fault::RepeatedVariable(i)) => i.saturating_add(700),
-        Err(Fault::UnusedVariable(i)) => i.saturating_add(800),
-        Err(Fault::CyclicAtom(i)) => i.saturating_add(900),
-        Err(Fault::UnconnectedAtom(i)) => i.saturating_add(1000),
-        Err(Fault::LoneVariable(i)) => i.saturating_add(1100),
-    }
-}
-
 #[test]
 fn shapes_and_places(rt: HostRuntime) -> Result<(), Fail> {
-    assert!(rt; answer(b"A", &[AB]) == 0);
-    assert!(rt; answer(b"AB", &[AB, BC]) == 0);
-    assert!(rt; answer(b"BA", &[AB, BC, CD]) == 0);
-    assert!(rt; answer(b"AA", &[AB]) == 701);
-    assert!(rt; answer(b"C", &[AB]) == 800);
-    assert!(rt; answer(b"AC", &[AB]) == 801);
-    assert!(rt; answer(b"A", &[AB, BA]) == 901);
-    assert!(rt; answer(b"A", &[AA]) == 900);
-    assert!(rt; answer(b"A", &[AB, BC, CA]) == 902);
-    assert!(rt; answer(b"A", &[AB, CD]) == 1001);
+    assert_eq!(rt; check_shape(b"A", &[AB]), Ok(()));
+    assert_eq!(rt; check_shape(b"AB", &[AB, BC]), Ok(()));
+    assert_eq!(rt; check_shape(b"BA", &[AB, BC, CD]), Ok(()));
+    assert_eq!(rt; check_shape(b"AA", &[AB]), Err(Fault::RepeatedVariable(1)));
+    assert_eq!(rt; check_shape(b"C", &[AB]), Err(Fault::UnusedVariable(0)));
+    assert_eq!(rt; check_shape(b"AC", &[AB]), Err(Fault::UnusedVariable(1)));
+    assert_eq!(rt; check_shape(b"A", &[AB, BA]), Err(Fault::CyclicAtom(1)));
+    assert_eq!(rt; check_shape(b"A", &[AA]), Err(Fault::CyclicAtom(0)));
+    assert_eq!(rt; check_shape(b"A", &[AB, BC, CA]), Err(Fault::CyclicAtom(2)));
+    assert_eq!(rt;
+        check_shape(b"A", &[AB, CD]),
+        Err(Fault::UnconnectedAtom(1))
+    );
     // connected by a later atom
-    assert!(rt; answer(b"A", &[AB, CD, BC]) == 0);
-    assert!(rt; answer(b"AC", &[AB, BC]) == 1101);
+    assert_eq!(rt; check_shape(b"A", &[AB, CD, BC]), Ok(()));
+    assert_eq!(rt; check_shape(b"AC", &[AB, BC]), Err(Fault::LoneVariable(1)));
     Ok(())
 }
 
 #[test]
 fn the_first_number_counts(rt: HostRuntime) -> Result<(), Fail> {
     // repeated before unused, unused before cyclic, cyclic before unconnected, unconnected before alone
-    assert!(rt; answer(b"AAC", &[AB]) == 701);
-    assert!(rt; answer(b"D", &[AB, BA]) == 800);
-    assert!(rt; answer(b"A", &[AB, CD, BA]) == 902);
-    assert!(rt; answer(b"AC", &[AB, CD]) == 1001);
+    assert_eq!(rt; check_shape(b"AAC", &[AB]), Err(Fault::RepeatedVariable(1)));
+    assert_eq!(rt; check_shape(b"D", &[AB, BA]), Err(Fault::UnusedVariable(0)));
+    assert_eq!(rt; check_shape(b"A", &[AB, CD, BA]), Err(Fault::CyclicAtom(2)));
+    assert_eq!(rt;
+        check_shape(b"AC", &[AB, CD]),
+        Err(Fault::UnconnectedAtom(1))
+    );
     Ok(())
 }

@@ -2,26 +2,27 @@
 use parse::parse;
 use std::test::*;
 
-// 0 for a text that is accepted, else 1000 times the number of the refusal and its place.
-fn answer(text: &[u8]) -> usize {
+// Nothing for a text that is accepted, else the number of the refusal and its place.
+fn answer(text: &[u8]) -> Result<(), (u8, usize)> {
     match parse(text) {
-        Ok(_) => 0,
-        Err(refusal) => refusal
-            .place()
-            .saturating_add(1000 * refusal.number() as usize),
+        Ok(_) => Ok(()),
+        Err(refusal) => Err((refusal.number(), refusal.place())),
     }
 }
 
 #[test]
 fn accepted(rt: HostRuntime) -> Result<(), Fail> {
-    assert_eq!(rt; answer(b"A:A[.]B"), 0);
-    assert_eq!(rt; answer(b"AB:A[p/r*/k]B,B[c+]C"), 0);
-    assert_eq!(rt; answer(b"A:A[]B,B[]C,C[]D,D[]E,E[]F,F[]G,G[]H,H[]I"), 0);
+    assert_eq!(rt; answer(b"A:A[.]B"), Ok(()));
+    assert_eq!(rt; answer(b"AB:A[p/r*/k]B,B[c+]C"), Ok(()));
+    assert_eq!(rt;
+        answer(b"A:A[]B,B[]C,C[]D,D[]E,E[]F,F[]G,G[]H,H[]I"),
+        Ok(())
+    );
     assert_eq!(rt;
         answer(
             b"A:A[a/a/a/a/a/a/a/a/a/a/a/a/a/a/a/a/a/a/a/a/a/a/a/a/a/a/a/a/a/a/a/a/a/a/a/a/a/a/a/a/a/a/a/a/a/a/a/a/a/a/a/a/a/a/a/a/a/a/a/a/a/a/a]B",
         ),
-        0
+        Ok(())
     );
     Ok(())
 }
@@ -32,45 +33,45 @@ fn deep_brackets(rt: HostRuntime) -> Result<(), Fail> {
         answer(
             b"A:A[((((((((((((((((((((((((((((((((((((((((((((((((((((((((((((((((((((((((((((((((((((((((((((((((((((((((((((((((((((((((((((((((((((((((((((((((((((((((((((((((((((((((((((((((((((((((((((((((((((((((((((((((((((((((((((((((((((((((((((((((((((((((((((a))))))))))))))))))))))))))))))))))))))))))))))))))))))))))))))))))))))))))))))))))))))))))))))))))))))))))))))))))))))))))))))))))))))))))))))))))))))))))))))))))))))))))))))))))))))))))))))))))))))))))))))))))))))))))))))))))))))))))))))))))))))))))))]B",
         ),
-        0
+        Ok(())
     );
     assert_eq!(rt;
         answer(
             b"A:A[((((((((((((((((((((((((((((((((((((((((((((((((((((((((((((((((((((((((((((((((((((((((((((((((((((((((((((((((((((((((((((((((((((((((((((((((((((((((((((((((((((((((((((((((((((((((((((((((((((((((((((((((((((((((((((((((((((((((((((((((((((((((((((a)))))))))))))))))))))))))))))))))))))))))))))))))))))))))))))))))))))))))))))))))))))))))))))))))))))))))))))))))))))))))))))))))))))))))))))))))))))))))))))))))))))))))))))))))))))))))))))))))))))))))))))))))))))))))))))))))))))))))))))))))))))))))))]B",
         ),
-        5508
+        Err((5, 508))
     );
     Ok(())
 }
 
 #[test]
 fn text_refused(rt: HostRuntime) -> Result<(), Fail> {
-    assert_eq!(rt; answer(&[65; 513]), 4512);
-    assert_eq!(rt; answer(&[65; 512]), 5512);
-    assert_eq!(rt; answer(b""), 5000);
-    assert_eq!(rt; answer(b"A:A[|a]B"), 5004);
-    assert_eq!(rt; answer(&[b'A', b':', 200]), 5002);
+    assert_eq!(rt; answer(&[65; 513]), Err((4, 512)));
+    assert_eq!(rt; answer(&[65; 512]), Err((5, 512)));
+    assert_eq!(rt; answer(b""), Err((5, 0)));
+    assert_eq!(rt; answer(b"A:A[|a]B"), Err((5, 4)));
+    assert_eq!(rt; answer(&[b'A', b':', 200]), Err((5, 2)));
     assert_eq!(rt;
         answer(b"A:A[]B,B[]C,C[]D,D[]E,E[]F,F[]G,G[]H,H[]I,I[]J"),
-        6042
+        Err((6, 42))
     );
     assert_eq!(rt;
         answer(
             b"A:A[a/a/a/a/a/a/a/a/a/a/a/a/a/a/a/a/a/a/a/a/a/a/a/a/a/a/a/a/a/a/a/a/a/a/a/a/a/a/a/a/a/a/a/a/a/a/a/a/a/a/a/a/a/a/a/a/a/a/a/a/a/a/a/a]B",
         ),
-        6130
+        Err((6, 130))
     );
     Ok(())
 }
 
 #[test]
 fn shape_refused(rt: HostRuntime) -> Result<(), Fail> {
-    assert_eq!(rt; answer(b"AA:A[a]B"), 7001);
-    assert_eq!(rt; answer(b"C:A[a]B"), 8000);
-    assert_eq!(rt; answer(b"A:A[a]A"), 9002);
-    assert_eq!(rt; answer(b"A:A[a]B,B[b]A"), 9008);
-    assert_eq!(rt; answer(b"A:A[a]B,C[a]D"), 10008);
-    assert_eq!(rt; answer(b"AC:A[a]B,B[a]C"), 11001);
+    assert_eq!(rt; answer(b"AA:A[a]B"), Err((7, 1)));
+    assert_eq!(rt; answer(b"C:A[a]B"), Err((8, 0)));
+    assert_eq!(rt; answer(b"A:A[a]A"), Err((9, 2)));
+    assert_eq!(rt; answer(b"A:A[a]B,B[b]A"), Err((9, 8)));
+    assert_eq!(rt; answer(b"A:A[a]B,C[a]D"), Err((10, 8)));
+    assert_eq!(rt; answer(b"AC:A[a]B,B[a]C"), Err((11, 1)));
     Ok(())
 }
 
@@ -81,12 +82,12 @@ fn order_of_atoms(rt: HostRuntime) -> Result<(), Fail> {
         return Ok(());
     };
     let order = parsed.order;
-    assert_eq!(rt; order.at[0], 1);
-    assert_eq!(rt; order.at[1], 2);
-    assert_eq!(rt; order.at[2], 0);
-    assert_eq!(rt; order.parent[1], 0);
-    assert_eq!(rt; order.parent[2], 1);
-    assert_eq!(rt; order.shared[2], b'B');
-    assert_eq!(rt; order.fresh[2], b'A');
+    assert_eq!(rt; order.steps[0].atom, 1);
+    assert_eq!(rt; order.steps[1].atom, 2);
+    assert_eq!(rt; order.steps[2].atom, 0);
+    assert_eq!(rt; order.steps[1].parent, 0);
+    assert_eq!(rt; order.steps[2].parent, 1);
+    assert_eq!(rt; order.steps[2].shared, b'B');
+    assert_eq!(rt; order.steps[2].fresh, b'A');
     Ok(())
 }

@@ -1,5 +1,5 @@
 // The small table at its edges, and one generic function on both kinds of graph.
-use graph::{Change, Edge, EdgeList, Graph, SizeFault, Sizes, SmallSizes, SmallTable, replay};
+use graph::{Change, Edge, EdgeList, Graph, ListSizes, SizeFault, SmallTable, TableSizes, replay};
 use std::process::Abort;
 use std::test::*;
 
@@ -7,23 +7,15 @@ fn edge(from: u16, label: u8, to: u16) -> Edge {
     Edge { from, label, to }
 }
 
-fn fault_of(nodes: u16, labels: u16) -> u8 {
-    match SmallSizes::new(nodes, labels) {
-        Ok(_) => 0,
-        Err(SizeFault::Nodes) => 1,
-        Err(SizeFault::Labels) => 2,
-    }
-}
-
 #[test]
 fn small_sizes_at_their_edges(rt: HostRuntime) -> Result<(), Fail> {
-    assert!(rt; fault_of(0, 1) == 1);
-    assert!(rt; fault_of(1, 1) == 0);
-    assert!(rt; fault_of(63, 26) == 0);
-    assert!(rt; fault_of(64, 26) == 0);
-    assert!(rt; fault_of(65, 26) == 1);
-    assert!(rt; fault_of(64, 0) == 2);
-    assert!(rt; fault_of(64, 27) == 2);
+    assert_eq!(rt; TableSizes::new(0, 1).err(), Some(SizeFault::Nodes));
+    assert_eq!(rt; TableSizes::new(1, 1).err(), None);
+    assert_eq!(rt; TableSizes::new(63, 26).err(), None);
+    assert_eq!(rt; TableSizes::new(64, 26).err(), None);
+    assert_eq!(rt; TableSizes::new(65, 26).err(), Some(SizeFault::Nodes));
+    assert_eq!(rt; TableSizes::new(64, 0).err(), Some(SizeFault::Labels));
+    assert_eq!(rt; TableSizes::new(64, 27).err(), Some(SizeFault::Labels));
     Ok(())
 }
 
@@ -31,7 +23,7 @@ fn small_sizes_at_their_edges(rt: HostRuntime) -> Result<(), Fail> {
 fn corners(rt: &impl Abort, nodes: u16) -> Result<(), Fail> {
     assert!(rt; nodes >= 1);
     let last = nodes - 1;
-    let Ok(sizes) = SmallSizes::new(nodes, 26) else {
+    let Ok(sizes) = TableSizes::new(nodes, 26) else {
         return Err(Fail::new("sizes"));
     };
     let mut table = SmallTable::new(sizes);
@@ -113,13 +105,13 @@ fn replays<G: Graph>(rt: &impl Abort, graph: &mut G) -> Result<(), Fail> {
 
 #[test]
 fn both_kinds_replay_alike(rt: HostRuntime) -> Result<(), Fail> {
-    let Ok(small) = SmallSizes::new(5, 3) else {
+    let Ok(small) = TableSizes::new(5, 3) else {
         return Err(Fail::new("sizes"));
     };
     let mut table = SmallTable::new(small);
     replays(&rt, &mut table)?;
     assert!(rt; table.capacity() == 75);
-    let Ok(sizes) = Sizes::new(5, 3) else {
+    let Ok(sizes) = ListSizes::new(5, 3) else {
         return Err(Fail::new("sizes"));
     };
     let mut memory = [edge(0, 0, 0); 3];

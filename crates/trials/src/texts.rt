@@ -2,63 +2,59 @@
 use query::{Fault, read_query};
 use std::test::*;
 
-// The number of atoms of a query, or 1000 times the number of the refusal and its place.
-fn answer(text: &[u8]) -> usize {
-    match read_query(text) {
-        Ok(query) => query.count,
-        Err(Fault::NoQuery(place)) => place.saturating_add(5000),
-        Err(Fault::TooLarge(place)) => place.saturating_add(6000),
-    }
+// The number of atoms of a query, or why it is refused.
+fn answer(text: &[u8]) -> Result<usize, Fault> {
+    read_query(text).map(|query| query.count)
 }
 
 #[test]
 fn accepted_texts(rt: HostRuntime) -> Result<(), Fail> {
-    assert_eq!(rt; answer(b"XY:X[a/b]Y"), 1);
-    assert_eq!(rt; answer(b"XY:X[a/b|c]Y,Y[(a|.)*?+]Z"), 2);
-    assert_eq!(rt; answer(b"X:X[]Y"), 1);
-    assert_eq!(rt; answer(b"AZ:A[z]Z"), 1);
+    assert_eq!(rt; answer(b"XY:X[a/b]Y"), Ok(1));
+    assert_eq!(rt; answer(b"XY:X[a/b|c]Y,Y[(a|.)*?+]Z"), Ok(2));
+    assert_eq!(rt; answer(b"X:X[]Y"), Ok(1));
+    assert_eq!(rt; answer(b"AZ:A[z]Z"), Ok(1));
     Ok(())
 }
 
 #[test]
 fn places_of_bad_signs(rt: HostRuntime) -> Result<(), Fail> {
-    assert_eq!(rt; answer(b""), 5000);
-    assert_eq!(rt; answer(b"a:A[a]B"), 5000);
-    assert_eq!(rt; answer(b"A:A[|a]B"), 5004);
-    assert_eq!(rt; answer(b"A:A[a"), 5005);
-    assert_eq!(rt; answer(b"A:A[a]"), 5006);
-    assert_eq!(rt; answer(b"A:A[(a]B"), 5006);
-    assert_eq!(rt; answer(b"A:A[a)]B"), 5005);
-    assert_eq!(rt; answer(b"A:A[]B]"), 5006);
-    assert_eq!(rt; answer(b"A:A[]B,"), 5007);
-    assert_eq!(rt; answer(b"A,"), 5001);
+    assert_eq!(rt; answer(b""), Err(Fault::NoQuery(0)));
+    assert_eq!(rt; answer(b"a:A[a]B"), Err(Fault::NoQuery(0)));
+    assert_eq!(rt; answer(b"A:A[|a]B"), Err(Fault::NoQuery(4)));
+    assert_eq!(rt; answer(b"A:A[a"), Err(Fault::NoQuery(5)));
+    assert_eq!(rt; answer(b"A:A[a]"), Err(Fault::NoQuery(6)));
+    assert_eq!(rt; answer(b"A:A[(a]B"), Err(Fault::NoQuery(6)));
+    assert_eq!(rt; answer(b"A:A[a)]B"), Err(Fault::NoQuery(5)));
+    assert_eq!(rt; answer(b"A:A[]B]"), Err(Fault::NoQuery(6)));
+    assert_eq!(rt; answer(b"A:A[]B,"), Err(Fault::NoQuery(7)));
+    assert_eq!(rt; answer(b"A,"), Err(Fault::NoQuery(1)));
     Ok(())
 }
 
 #[test]
 fn places_of_limits(rt: HostRuntime) -> Result<(), Fail> {
-    assert_eq!(rt; answer(b"A:A[]B,A[]B,A[]B,A[]B,A[]B,A[]B,A[]B,A[]B"), 8);
+    assert_eq!(rt; answer(b"A:A[]B,A[]B,A[]B,A[]B,A[]B,A[]B,A[]B,A[]B"), Ok(8));
     assert_eq!(rt;
         answer(b"A:A[]B,A[]B,A[]B,A[]B,A[]B,A[]B,A[]B,A[]B,A[]B"),
-        6042
+        Err(Fault::TooLarge(42))
     );
     assert_eq!(rt;
         answer(
             b"A:A[a/a/a/a/a/a/a/a/a/a/a/a/a/a/a/a/a/a/a/a/a/a/a/a/a/a/a/a/a/a/a/a/a/a/a/a/a/a/a/a/a/a/a/a/a/a/a/a/a/a/a/a/a/a/a/a/a/a/a/a/a/a/a]B",
         ),
-        1
+        Ok(1)
     );
     assert_eq!(rt;
         answer(
             b"A:A[a/a/a/a/a/a/a/a/a/a/a/a/a/a/a/a/a/a/a/a/a/a/a/a/a/a/a/a/a/a/a/a/a/a/a/a/a/a/a/a/a/a/a/a/a/a/a/a/a/a/a/a/a/a/a/a/a/a/a/a/a/a/a/a]B",
         ),
-        6130
+        Err(Fault::TooLarge(130))
     );
     assert_eq!(rt;
         answer(
             b"A:A[a/a/a/a/a/a/a/a/a/a/a/a/a/a/a/a/a/a/a/a/a/a/a/a/a/a/a/a/a/a/a/a/a/a/a/a/a/a/a/a/a/a/a/a/a/a/a/a/a/a/a/a/a/a/a/a/a/a/a/a/a/a/a/a]B,",
         ),
-        5134
+        Err(Fault::NoQuery(134))
     );
     Ok(())
 }

@@ -8,10 +8,11 @@
 --     Reaches E q m S v s    some word leads along a path from a node to v, and from a state that S keeps for that node to s
 --     Spells E q m u v       some path from u to v spells a word that m accepts
 use Rattle.std.specs.Prelude.{◌≡◌, ℕ, ◌<◌, true, ◌↔◌, List, [], ◌∷◌, slice_index, slice_index_or}
+use Rattle.std.proofs.Props.{props}
 use Rattle.bits.specs.Bits.{Has}
 use Rattle.meaning.specs.Graphs.{Edges}
 use Rattle.meaning.specs.Paths.{Path}
-use Rattle.meaning.specs.Words.{Matches}
+use Rattle.meaning.specs.Words.{Symbol, label, any, Matches}
 use Rattle.automata.specs.declared.machine.Automaton.{Automaton}
 use Rattle.automata.specs.declared.symbols.Symbol.TheVariants.{Any}
 use Rattle.automata.specs.Machines.{Steps, Accepts}
@@ -42,3 +43,8 @@ Reaches E q m S v s = (u : ℕ) × (p : ℕ) × (x : List ℕ) × In S u p × Pa
 
 abbrev pub Spells : Edges → ℕ → Automaton → ℕ → ℕ → Type 0
 Spells E q m u v = (x : List ℕ) × Path E u x v × Accepts q m x
+
+-- a fact with at most one proof, as a struct that keeps it needs
+pub matches_prop : (q : ℕ) (s : Symbol) (a : ℕ) → IsProp (Matches q s a)
+matches_prop q (label c) a = hlevel props
+matches_prop q any a = hlevel props

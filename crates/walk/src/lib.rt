@@ -5,5 +5,6 @@ mod marks;
 mod masks;
 mod passes;
 mod tables;
+mod walks;
 
 pub use tables::fill_table;

@@ -1,11 +1,11 @@
 ghost use Rattle.std.specs.Prelude.{◌≡◌, ℕ, ◌+◌, ◌<◌, true, length};
 ghost use Rattle.bits.specs.Bits.{Has};
 ghost use Rattle.walk.specs.Marked.{Grew};
-ghost use Rattle.walk.specs.Moves.{Entering, Moves};
+ghost use Rattle.walk.specs.Moves.{Moves};
 
 use super::masks::successors;
-use automata::Automaton;
-use graph::Graph;
+use super::walks::Walk;
+use graph::{Graph, Successors};
 use meaning::{LabelId, NodeId};
 
 // Adds states to those seen at a node, and the new ones among them to those waiting there.
@@ -29,28 +29,26 @@ fn spread<G: Graph>(graph: &G, node: NodeId, label: LabelId, states: u64, z: &mu
         return;
     }
     let n = graph.node_count() as usize;
-    let mut bound = 0;
-    while let Some(to) = graph.follow(node, label, bound) {
+    for to in Successors::of(graph, node, label) {
         mark(z, n, to as usize, states);
-        bound = to + 1;
     }
 }
 
-// Marks what one edge and one step of the automaton lead to from a node in the states of a set.
-pub(crate) fn step<G: Graph>(
-    graph: &G,
-    auto: &Automaton,
-    masks: &[u64; 26],
-    node: NodeId,
-    states: u64,
-    z: &mut [u64],
-)
-    requires scratch { length z.old ≡ (G.Graph.graph graph.now).nodes + (G.Graph.graph graph.now).nodes }
-    requires masks { Entering (G.Graph.graph graph.now).labels auto.now masks.now }
-    ensures { Grew (G.Graph.graph graph.now).nodes z.old z.new (λ w t. (s : ℕ) × Has states s × Moves (G.Graph.graph graph.now).has (G.Graph.graph graph.now).labels auto.now node s w t) }
-{
-    let after = successors(auto, states);
-    for label in 0..graph.label_count() {
-        spread(graph, node, label, after & masks[label as usize], z);
+impl<G: Graph> Walk<'_, G> {
+    // Marks what one edge and one step of the automaton lead to from a node in the states of a set.
+    pub(crate) fn step(&self, node: NodeId, states: u64, z: &mut [u64])
+        requires { length z.old ≡ (G.Graph.graph self.now.graph.now).nodes + (G.Graph.graph self.now.graph.now).nodes }
+        ensures { Grew (G.Graph.graph self.now.graph.now).nodes z.old z.new (λ w t. (s : ℕ) × Has states s × Moves (G.Graph.graph self.now.graph.now).has (G.Graph.graph self.now.graph.now).labels self.now.automaton.now node s w t) }
+    {
+        let after = successors(self.automaton, states);
+        for label in 0..self.graph.label_count() {
+            spread(
+                self.graph,
+                node,
+                label,
+                after & self.masks[label as usize],
+                z,
+            );
+        }
     }
 }

@@ -7,8 +7,7 @@ ghost use Rattle.meaning.specs.Words.{Regex};
 ghost use Rattle.walk.specs.Rows.{Kept, RowAt};
 ghost use Rattle.walk.specs.Tables.{Tells, Written};
 
-use super::masks::masks;
-use super::passes::walk_from;
+use super::walks::Walk;
 use automata::Automaton;
 use bits::{clear, set, width};
 use graph::Graph;
@@ -31,32 +30,26 @@ fn write_row(words: &mut [u64], scratch: usize, n: usize, accept: u64, start: us
 // whose labels spell a word of the expression. The two words for each node from `scratch` on are scratch, 0 afterwards; no other word changes.
 pub fn fill_table<G: Graph>(
     graph: &G,
-    auto: &Automaton,
+    automaton: &Automaton,
     words: &mut [u64],
     start: usize,
     scratch: usize,
 )
     requires table { start + (G.Graph.graph graph.now).nodes * words_of (G.Graph.graph graph.now).nodes ≤ scratch }
     requires room { scratch + ((G.Graph.graph graph.now).nodes + (G.Graph.graph graph.now).nodes) ≤ length words.old }
-    ensures pairs { (r : Regex) → Recognizes auto.now r → size r ≤ 63 → Tells (Joins (G.Graph.graph graph.now).has (G.Graph.graph graph.now).labels r) words.new start (G.Graph.graph graph.now).nodes }
+    ensures pairs { (r : Regex) → Recognizes automaton.now r → size r ≤ 63 → Tells (Joins (G.Graph.graph graph.now).has (G.Graph.graph graph.now).labels r) words.new start (G.Graph.graph graph.now).nodes }
     ensures written { Written words.old words.new start (G.Graph.graph graph.now).nodes scratch }
 {
     let n = graph.node_count() as usize;
     let row = width(n);
-    let entering = masks(auto, graph.label_count());
+    let walk = Walk::new(graph, automaton);
     for source in 0..graph.node_count() {
-        walk_from(
-            graph,
-            auto,
-            &entering,
-            source,
-            &mut words[scratch..scratch + (n + n)],
-        );
+        walk.run_from(source, &mut words[scratch..scratch + (n + n)]);
         write_row(
             words,
             scratch,
             n,
-            auto.accept,
+            automaton.accept,
             start + source as usize * row,
         );
     }

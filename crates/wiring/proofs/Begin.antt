@@ -1,7 +1,7 @@
 -- The first record of a file.
 use Rattle.std.proofs.Common.{◌≡◌, ℕ, true, false, List, [], Some, None, Ok, Err, Option, Result, sym, ap, ◌∙◌, subst}
 use Rattle.meaning.specs.Graphs.{Within, New}
-use Rattle.graph.specs.declared.list.Sizes.{Sizes as ListSizes}
+use Rattle.graph.specs.declared.sizes.Sizes.{Sizes as SizesOf}
 use Rattle.graph.specs.declared.outcomes.SizeFault.{SizeFault}
 use Rattle.graph.specs.Calls.{BadSizes}
 use Rattle.wiring.specs.declared.faults.Fault.{Fault}
@@ -27,10 +27,10 @@ module _ (m : ℕ) (bs : List ℕ) (o : ℕ) (p : Phase) (o' : ℕ) (p' : Phase)
       let end : Ends bs 0 Start o' p' = subst (λ (z : Option Record). Nexts bs 0 Start (Ok z) o' p') e (from_start (Ok n) h) in
       ended (subst (λ (z : ℕ). Reached m k bs z None []) end.ended begun)
 
-  pub begin_stopped : (f x : Fault) (r : Result (Option ListSizes) Fault) → r ≡ Err x → x ≡ f → Nexts bs o p (Err f) o' p' → Opens m bs r o' p'
+  pub begin_stopped : (f x : Fault) (r : Result (Option (SizesOf 1024)) Fault) → r ≡ Err x → x ≡ f → Nexts bs o p (Err f) o' p' → Opens m bs r o' p'
   begin_stopped f x r e same h =
       let stop : Stops bs 0 Start f o' p' = from_start (Err f) h in
-      subst (λ (q : Result (Option ListSizes) Fault). Opens m bs q o' p') (sym (e ∙ ap (λ (y : Fault). Err y) same))
+      subst (λ (q : Result (Option (SizesOf 1024)) Fault). Opens m bs q o' p') (sym (e ∙ ap (λ (y : Fault). Err y) same))
       (λ k. stopped f begun stop.more stop.refused)
 
   module _ (r : Record) (n : Option Record) (is : n ≡ Some r) (h : Nexts bs o p (Ok n) o' p') where
@@ -47,12 +47,12 @@ module _ (m : ℕ) (bs : List ℕ) (o : ℕ) (p : Phase) (o' : ℕ) (p' : Phase)
       fine : Fine bs 0 false
       fine = (said.more, said.taken)
 
-      pub begin_unsized : (f : SizeFault) (x : Fault) (a : Result (Option ListSizes) Fault) → a ≡ Err x → x ≡ bad_sizes f → BadSizes m u q f → Opens m bs a o' p'
+      pub begin_unsized : (f : SizeFault) (x : Fault) (a : Result (Option (SizesOf 1024)) Fault) → a ≡ Err x → x ≡ bad_sizes f → BadSizes m u q f → Opens m bs a o' p'
       begin_unsized f x a e same bad =
-          subst (λ (z : Result (Option ListSizes) Fault). Opens m bs z o' p') (sym (e ∙ ap (λ (y : Fault). Err y) same))
+          subst (λ (z : Result (Option (SizesOf 1024)) Fault). Opens m bs z o' p') (sym (e ∙ ap (λ (y : Fault). Err y) same))
           (λ k. unsized u q f begun fine said.says bad)
 
-      pub begin_made : (s : ListSizes) → (s.nodes ≡ u) × (s.labels ≡ q) × Within m u q → Opens m bs (Ok (Some s)) o' p'
+      pub begin_made : (s : (SizesOf 1024)) → (s.nodes ≡ u) × (s.labels ≡ q) × Within m u q → Opens m bs (Ok (Some s)) o' p'
       begin_made s w = (
         said.loading,
         λ k g new.

@@ -7,7 +7,7 @@ use Rattle.std.specs.Prelude.{◌≡◌, ℕ, List, [], ◌∷◌, Some, None, O
 use Rattle.std.specs.declared.alloc.Global.{Global}
 use Rattle.meaning.specs.Graphs.{Graph, New}
 use Rattle.graph.specs.declared.edges.Edge.{Edge}
-use Rattle.graph.specs.declared.list.Sizes.{Sizes}
+use Rattle.graph.specs.declared.sizes.Sizes.{Sizes}
 use Rattle.wiring.specs.declared.faults.Fault.{Fault}
 use Rattle.wiring.specs.declared.faults.Refusal.{Refusal}
 use Rattle.wiring.specs.declared.phases.Phase.{Phase}
@@ -15,7 +15,7 @@ use Rattle.wiring.specs.declared.phases.Phase.TheVariants.{Loading}
 use Rattle.wiring.specs.Listing.{Lists, Wire}
 use Rattle.wiring.specs.Reading.{Reached, Read, refusal}
 
-abbrev pub Opens : ℕ → List ℕ → Result (Option Sizes) Fault → ℕ → Phase → Type 0
+abbrev pub Opens : ℕ → List ℕ → Result (Option (Sizes 1024)) Fault → ℕ → Phase → Type 0
 Opens m bs (Ok None) at p = (k : ℕ) → Read m k bs None []
 Opens m bs (Ok (Some s)) at p =
     (p ≡ Loading) × ((k : ℕ) (g : Graph) → New g s.nodes s.labels k → Reached m k bs at (Some g) [])

@@ -17,8 +17,7 @@ impl Fault {
             Fault::Malformed => 16,
             Fault::Misplaced => 17,
             Fault::BadSizes(_) => 14,
-            Fault::TurnedAway(_) => 18,
-            Fault::BadQuery(_) => 18,
+            Fault::TurnedAway(_) | Fault::BadQuery(_) => 18,
         }
     }
 }

@@ -2,7 +2,7 @@ ghost use Rattle.std.specs.Prelude.{◌+◌, IfOk};
 ghost use Rattle.graph.specs.Edges.{edge};
 ghost use Rattle.wiring.specs.Listing.{Lists, Wire, WireBelow};
 
-use graph::{Edge, Graph};
+use graph::{Edge, Graph, Successors};
 use meaning::{LabelId, NodeId};
 use std::alloc::{AllocError, Global};
 
@@ -40,14 +40,12 @@ fn push_row<G: Graph>(
         Lists (WireBelow (G.Graph.graph graph.now) (edge node label 0)) list.old.items
         → Lists (WireBelow (G.Graph.graph graph.now) (edge node (label + 1) 0)) list.new.items) }
 {
-    let mut bound = 0;
-    while let Some(to) = graph.follow(node, label, bound) {
+    for to in Successors::of(graph, node, label) {
         list.push(Edge {
             from: node,
             label,
             to,
         })?;
-        bound = to + 1;
     }
     Ok(())
 }

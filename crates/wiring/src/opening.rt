@@ -7,10 +7,10 @@ ghost use Rattle.wiring.specs.declared.phases.Phase.TheVariants.{Start};
 use super::faults::Fault;
 use super::reader::Reader;
 use super::records::Record;
-use graph::{SizeFault, Sizes};
+use graph::{ListSizes, SizeFault};
 
 // The sizes that a file begins with, or none where it is empty.
-pub(crate) fn sizes(reader: &mut Reader) -> Result<Option<Sizes>, Fault>
+pub(crate) fn sizes(reader: &mut Reader) -> Result<Option<ListSizes>, Fault>
     requires start { reader.old.at ≡ 0 }
     requires phase { reader.old.phase ≡ Start }
     ensures opens { Opens 200 reader.old.bytes.now result reader.new.at reader.new.phase }
@@ -26,11 +26,11 @@ pub(crate) fn sizes(reader: &mut Reader) -> Result<Option<Sizes>, Fault>
 }
 
 // Sizes of at most 200 nodes, checked.
-fn site_sizes(nodes: u16, labels: u16) -> Result<Sizes, SizeFault>
+fn site_sizes(nodes: u16, labels: u16) -> Result<ListSizes, SizeFault>
     ensures { elim result [ Ok s ↦ (s.nodes ≡ nodes) × (s.labels ≡ labels) × Within 200 nodes labels | Err f ↦ BadSizes 200 nodes labels f ] }
 {
     if nodes > 200 {
         return Err(SizeFault::Nodes);
     }
-    Sizes::new(nodes, labels)
+    ListSizes::new(nodes, labels)
 }

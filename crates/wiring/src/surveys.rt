@@ -10,7 +10,7 @@ use super::listing::wires;
 use super::loading::load;
 use super::opening::sizes;
 use super::reader::Reader;
-use graph::{Edge, EdgeList, Sizes};
+use graph::{Edge, EdgeList, ListSizes};
 use std::alloc::{AllocError, Global};
 
 // What a file leaves standing.
@@ -56,7 +56,7 @@ pub fn survey_file(heap: Global, bytes: &[u8]) -> Result<Survey, AllocError>
 // Makes the changes of the records to come to a new edge list, and lists the edges that it has then.
 fn load_list(
     heap: Global,
-    sizes: Sizes,
+    sizes: ListSizes,
     reader: &mut Reader,
     refusals: &mut Vec<Refusal>,
 ) -> Result<Vec<Edge>, AllocError>

@@ -1,83 +1,83 @@
-use Rattle.std.proofs.Common.{ℕ, ◌<◌, ◌≤◌, length, get_or, refl, arith, length-set}
-use lib.ListN.{get_or-replicate}
+use Rattle.std.proofs.Common.{◌≡◌, ℕ, ◌<◌, ◌≤◌, ◌⊎◌, Option, None, Some, length, get_or, replicate, unwrap_or, refl, sym, ◌∙◌, arith, length-set}
+use Rattle.std.proofs.lemmas.List.{set-get_or}
 use Rattle.shapes.specs.Checks.{of}
-use Rattle.order.specs.Ranks.{ranks}
-use Rattle.order.proofs.Taking.{open_room, taking_none, taking_more, taking_all, chosen_all, changed_set, start_seen, acyclic_from}
+use Rattle.order.specs.declared.Step.{Step}
+use Rattle.order.specs.Ranks.{arranged, blank}
+use Rattle.order.proofs.Taking.{open_room, taking_none, taking_more, taking_all, chosen_all, changed_at, start_seen, small_none, small_set, none_at, opened, acyclic_from}
 use Rattle.order.proofs.reach.Goals as goal
 
-pub loop-c-init : goal.loop-c-init
-loop-c-init c =
+pub loop-k-init : goal.loop-k-init
+loop-k-init c =
     let few : length c.args.atoms.now ≤ 8 = c.requires.few in
     let s = start_seen c.args.start (omega arith) in (
       refl,
-      refl,
-      refl,
-      refl,
-      refl,
       simp length-set refl,
-      taking_none (of c.args.atoms.now) (length c.args.atoms.now) c.args.start _ _ (λ d l. get_or-replicate 8 d 8 0 (omega arith)) s.0 s.1,
+      refl,
+      small_none 8,
+      small_set (replicate 256 None) c.args.start 0 (omega arith) (omega arith) (small_none 256),
+      taking_none (of c.args.atoms.now) (length c.args.atoms.now) c.args.start _ _ (λ d l. none_at 8 d) s.0 s.1,
     )
 
-pub offset_bounds-at-k : goal.offset_bounds-at-k
-offset_bounds-at-k c = omega (arith, c.requires.few, open_room (of c.args.atoms.now) (length c.args.atoms.now) c.args.start c.loop-c.k (ranks c.loop-c.at c.loop-c.rank c.loop-c.parent c.loop-c.shared c.loop-c.fresh) (λ v. get_or c.loop-c.seen v 0) c.in-Some.c c.loop-c.invariant.6 c.in-Some.ensures.0 c.in-Some.ensures.1.0)
-
-pub bounds-at-k : goal.bounds-at-k
-bounds-at-k c = omega (arith, c.requires.few, open_room (of c.args.atoms.now) (length c.args.atoms.now) c.args.start c.loop-c.k (ranks c.loop-c.at c.loop-c.rank c.loop-c.parent c.loop-c.shared c.loop-c.fresh) (λ v. get_or c.loop-c.seen v 0) c.in-Some.c c.loop-c.invariant.6 c.in-Some.ensures.0 c.in-Some.ensures.1.0)
-
-pub offset_bounds-parent-k : goal.offset_bounds-parent-k
-offset_bounds-parent-k c = omega (arith, c.requires.few, open_room (of c.args.atoms.now) (length c.args.atoms.now) c.args.start c.loop-c.k (ranks c.loop-c.at c.loop-c.rank c.loop-c.parent c.loop-c.shared c.loop-c.fresh) (λ v. get_or c.loop-c.seen v 0) c.in-Some.c c.loop-c.invariant.6 c.in-Some.ensures.0 c.in-Some.ensures.1.0)
-
-pub bounds-parent-k : goal.bounds-parent-k
-bounds-parent-k c = omega (arith, c.requires.few, open_room (of c.args.atoms.now) (length c.args.atoms.now) c.args.start c.loop-c.k (ranks c.loop-c.at c.loop-c.rank c.loop-c.parent c.loop-c.shared c.loop-c.fresh) (λ v. get_or c.loop-c.seen v 0) c.in-Some.c c.loop-c.invariant.6 c.in-Some.ensures.0 c.in-Some.ensures.1.0)
-
-pub bounds-shared-k : goal.bounds-shared-k
-bounds-shared-k c = omega (arith, c.requires.few, open_room (of c.args.atoms.now) (length c.args.atoms.now) c.args.start c.loop-c.k (ranks c.loop-c.at c.loop-c.rank c.loop-c.parent c.loop-c.shared c.loop-c.fresh) (λ v. get_or c.loop-c.seen v 0) c.in-Some.c c.loop-c.invariant.6 c.in-Some.ensures.0 c.in-Some.ensures.1.0)
-
-pub bounds-fresh-k : goal.bounds-fresh-k
-bounds-fresh-k c = omega (arith, c.requires.few, open_room (of c.args.atoms.now) (length c.args.atoms.now) c.args.start c.loop-c.k (ranks c.loop-c.at c.loop-c.rank c.loop-c.parent c.loop-c.shared c.loop-c.fresh) (λ v. get_or c.loop-c.seen v 0) c.in-Some.c c.loop-c.invariant.6 c.in-Some.ensures.0 c.in-Some.ensures.1.0)
-
-pub overflow_add-k : goal.overflow_add-k
-overflow_add-k c = omega (arith, c.requires.few, open_room (of c.args.atoms.now) (length c.args.atoms.now) c.args.start c.loop-c.k (ranks c.loop-c.at c.loop-c.rank c.loop-c.parent c.loop-c.shared c.loop-c.fresh) (λ v. get_or c.loop-c.seen v 0) c.in-Some.c c.loop-c.invariant.6 c.in-Some.ensures.0 c.in-Some.ensures.1.0)
-
-pub loop-c-smaller : goal.loop-c-smaller
-loop-c-smaller c = omega (arith, c.requires.few, open_room (of c.args.atoms.now) (length c.args.atoms.now) c.args.start c.loop-c.k (ranks c.loop-c.at c.loop-c.rank c.loop-c.parent c.loop-c.shared c.loop-c.fresh) (λ v. get_or c.loop-c.seen v 0) c.in-Some.c c.loop-c.invariant.6 c.in-Some.ensures.0 c.in-Some.ensures.1.0)
-
-pub loop-c-preserved : goal.loop-c-preserved
-loop-c-preserved c =
-    let v = c.loop-c.invariant in
-    let o = c.in-Some.ensures in
-    let r : c.loop-c.k < length c.args.atoms.now = open_room (of c.args.atoms.now) (length c.args.atoms.now) c.args.start c.loop-c.k (ranks c.loop-c.at c.loop-c.rank c.loop-c.parent c.loop-c.shared c.loop-c.fresh) (λ v. get_or c.loop-c.seen v 0) c.in-Some.c c.loop-c.invariant.6 c.in-Some.ensures.0 c.in-Some.ensures.1.0 in
-    let few : length c.args.atoms.now ≤ 8 = c.requires.few in
-    let d : c.in-Some.c < length c.args.atoms.now = o.0 in
-    let e = c.sides-s.ensures in (
+pub loop-k-preserved : goal.loop-k-preserved
+loop-k-preserved c =
+    let q = of c.args.atoms.now in
+    let m = length c.args.atoms.now in
+    let v = c.loop-k.invariant in
+    let k = c.loop-k.k in
+    let s = c.in-Some.step in
+    let o = c.in-Some.ensures.some in
+    let h = o.2 in
+    let a = arranged c.loop-k.place-items c.loop-k.rank in
+    let seen : ℕ → ℕ = λ v. unwrap_or (get_or c.loop-k.seen v None) 8 in
+    let unranked : 8 ≤ a.rank s.atom = rw (o.1) (omega arith) in
+    let parent : seen s.shared ≡ s.parent = rw h.known refl in
+    let room = open_room q m c.args.start k a seen s.atom v.5 o.0 unranked in
+    let few : m ≤ 8 = c.requires.few in
+    let to = changed_at (λ (x : Step). x.parent) c.loop-k.place-items k s blank (omega (arith, v.2)) in
+    let low : k < 8 = omega arith in (
       simp length-set v.0,
       simp length-set v.1,
       simp length-set v.2,
-      simp length-set v.3,
-      simp length-set v.4,
-      simp length-set v.5,
-      taking_more (of c.args.atoms.now) (length c.args.atoms.now) c.args.start c.loop-c.k
-          (ranks c.loop-c.at c.loop-c.rank c.loop-c.parent c.loop-c.shared c.loop-c.fresh) _ (λ v. get_or c.loop-c.seen v 0) _ v.6
-          (acyclic_from (of c.args.atoms.now) (length c.args.atoms.now) c.requires.some c.requires.acyclic) few
-          c.in-Some.c c.sides-s.result.0 c.sides-s.result.1 d o.1.0 e.joins e.low e.second_low e.known o.2
-          (changed_set c.loop-c.at c.loop-c.k c.in-Some.c (omega arith))
-          (changed_set c.loop-c.rank c.in-Some.c c.loop-c.k (omega arith))
-          (changed_set c.loop-c.parent c.loop-c.k (get_or c.loop-c.seen c.sides-s.result.0 0) (omega arith))
-          (changed_set c.loop-c.shared c.loop-c.k c.sides-s.result.0 (omega arith))
-          (changed_set c.loop-c.fresh c.loop-c.k c.sides-s.result.1 (omega arith))
-          (changed_set c.loop-c.seen c.sides-s.result.1 c.loop-c.k (omega (arith, v.5, e.second_low))),
+      small_set c.loop-k.rank s.atom k (omega (arith, v.0, o.0)) low v.3,
+      small_set c.loop-k.seen s.fresh k (omega (arith, v.1, h.second_low)) low v.4,
+      taking_more q m c.args.start k a _ seen _ v.5 (acyclic_from q m c.requires.some c.requires.acyclic) few
+          s.atom s.shared s.fresh o.0 unranked h.joins h.low h.second_low (omega (arith, parent, v.4 s.shared s.parent h.known))
+          (λ d l e. o.3 d l (opened q c.loop-k.rank c.loop-k.seen d v.3 e))
+          (changed_at (λ (x : Step). x.atom) c.loop-k.place-items k s blank (omega (arith, v.2)))
+          (changed_at (λ (x : Option ℕ). unwrap_or x 8) c.loop-k.rank s.atom (Some k) None (omega (arith, v.0, o.0)))
+          (to.0 ∙ sym parent, to.1)
+          (changed_at (λ (x : Step). x.shared) c.loop-k.place-items k s blank (omega (arith, v.2)))
+          (changed_at (λ (x : Step). x.fresh) c.loop-k.place-items k s blank (omega (arith, v.2)))
+          (changed_at (λ (x : Option ℕ). unwrap_or x 8) c.loop-k.seen s.fresh (Some k) None (omega (arith, v.1, h.second_low))),
     )
 
-pub returns : goal.returns
-returns c =
+pub returns-after-loop-k : goal.returns-after-loop-k
+returns-after-loop-k c =
     let q = of c.args.atoms.now in
     let m = length c.args.atoms.now in
-    let a = ranks c.loop-c.at c.loop-c.rank c.loop-c.parent c.loop-c.shared c.loop-c.fresh in
-    let seen : ℕ → ℕ = λ v. get_or c.loop-c.seen v 0 in
+    let v = c.loop-k.invariant in
+    let a = arranged c.loop-k.place-items c.loop-k.rank in
+    let seen : ℕ → ℕ = λ v. unwrap_or (get_or c.loop-k.seen v None) 8 in
+    let full = c.loop-k-test.false in
+    let few : m ≤ 8 = c.requires.few in
+    let none : (d : ℕ) → d < m → (8 ≤ a.rank d) × ((seen (q.first d) < 8) ⊎ (seen (q.second d) < 8)) → ⊥ =
+    λ d l h. let room = open_room q m c.args.start c.loop-k.k a seen d v.5 l h.0 in omega (arith, room, full, few) in
     record {
-      ordered = taking_all q m c.args.start c.loop-c.k a seen c.loop-c.invariant.6 c.in_default.ensures c.requires.used c.requires.connected c.requires.some;
-      chosen = chosen_all q m c.args.start c.loop-c.k a seen c.loop-c.invariant.6 c.in_default.ensures c.requires.used c.requires.connected;
+      ordered = taking_all q m c.args.start c.loop-k.k a seen v.5 none c.requires.used c.requires.connected c.requires.some;
+      chosen = chosen_all q m c.args.start c.loop-k.k a seen v.5 none c.requires.used c.requires.connected;
     }
 
-pub sides-s-requires : goal.sides-s-requires
-sides-s-requires c = c.in-Some.ensures.1.1
+pub returns-in_default : goal.returns-in_default
+returns-in_default c =
+    let q = of c.args.atoms.now in
+    let m = length c.args.atoms.now in
+    let v = c.loop-k.invariant in
+    let a = arranged c.loop-k.place-items c.loop-k.rank in
+    let seen : ℕ → ℕ = λ v. unwrap_or (get_or c.loop-k.seen v None) 8 in
+    let none : (d : ℕ) → d < m → (8 ≤ a.rank d) × ((seen (q.first d) < 8) ⊎ (seen (q.second d) < 8)) → ⊥ =
+    λ d l h. c.in_default.ensures.none d l (opened q c.loop-k.rank c.loop-k.seen d v.3 h) in
+    rw (set-get_or c.loop-k.place-items c.loop-k.k blank)
+    (record {
+      ordered = taking_all q m c.args.start c.loop-k.k a seen v.5 none c.requires.used c.requires.connected c.requires.some;
+      chosen = chosen_all q m c.args.start c.loop-k.k a seen v.5 none c.requires.used c.requires.connected;
+    })

@@ -1,16 +1,11 @@
-use Rattle.std.proofs.Common.{refl, arith}
+use Rattle.std.proofs.Common.{◌≡◌, ℕ, ◌+◌, ◌-◌, ◌<◌, ◌≤◌, ◌≢◌, ◌^◌, List, length, get_or, take, drop, Bool, true, false, refl, arith, rules, ◌∙◌, sym, ap}
+use borrow.Author.Tests.{tests}
 use Rattle.std.proofs.lemmas.Bool.{both_ways}
-use Rattle.bits.proofs.RowLaws.{some_bit_from, no_bit_from}
+use Rattle.std.proofs.lemmas.Iterator.{cases_from_any, YieldsList-from_slice}
+use Rattle.bits.proofs.RowLaws.{decides_some}
 use Rattle.bits.proofs.rows.has_some.Goals as goal
 
-pub returns-then-words-i-ne0 : goal.returns-then-words-i-ne0
-returns-then-words-i-ne0 c = (
-  (λ _. some_bit_from c.args.words.now c.args.start c.args.count c.loop-i.i (omega arith) (omega arith) (c.type_inv.words c.loop-i.i).fits (omega arith)),
-  λ _. refl,
-)
-
 pub returns : goal.returns
-returns c = (
-  (λ e. absurd (both_ways _ refl e)),
-  λ s. absurd (no_bit_from c.args.words.now c.args.start c.args.count (λ k a b. c.loop-i.invariant k a (omega arith)) s),
-)
+returns c =
+    decides_some c.args.words.now c.args.start c.args.count c.any.result c.requires (λ k. (c.type_inv.words k).fits)
+    (cases_from_any _ _ _ (λ x. x ≢ 0) (λ x. x ≡ 0) c.any.ensures.ran (YieldsList-from_slice (take (c.args.start + c.args.count - c.args.start) (drop c.args.start c.args.words.now)) c.iter.ensures.rest) (λ x q k. search (rules, tests)) (λ x q k. search (rules, tests)))

@@ -21,20 +21,21 @@ reduce_all-requires g c =
     let N = G.nodes in
     let p = c.args.parsed.now in
     let m = p.query.count in
-    let n = c.node_count-n.result in
-    let W = c.width.result in
+    let n = c.of.result.count in
+    let nodes : n ≡ N = c.of.ensures.count ∙ c.node_count-n.ensures in
+    let W = c.of.result.width in
+    let wide : W ≡ width n = c.of.ensures.width ∙ ap width (sym c.of.ensures.count) in
     let Y = c.fill_each.new.words in
     let E = c.ends-pairs.result in
     let L : length (take m E) ≡ m = omega (arith, length-take m E, c.ends-pairs.ensures.long, c.requires.some.1) in
-    let size : n * W ≡ N * width N = ap (λ (y : ℕ). n * y) c.width.ensures ∙ ap (λ (y : ℕ). y * width y) c.node_count-n.ensures in
+    let size : n * W ≡ N * width N = ap (λ (y : ℕ). n * y) wide ∙ ap (λ (y : ℕ). y * width y) nodes in
     let room : m * (n * W) + (N + N) ≤ length Y = subst (λ (y : ℕ). m * y + (N + N) ≤ length Y) (sym size) (omega (arith, c.requires.room)) in
     let room' : length (take m E) * (n * W) + (N + N) ≤ length Y = subst (λ (y : ℕ). y * (n * W) + (N + N) ≤ length Y) (sym L) room in
     let ready = raw_ready G p.query.atoms m c.args.words.now Y c.requires.some.0 c.fill_each.ensures in
     record {
       some = (omega (arith, c.requires.some.0), omega (arith, c.requires.some.1));
-      wide = omega arith;
       room = omega (arith, G.sized.0);
-      ready = subst (λ (y : ℕ). Ready Y y n W) (sym L) (subst (λ (y : ℕ). Ready Y m n y) (sym c.width.ensures) (subst (λ (y : ℕ). Ready Y m y (width y)) (sym c.node_count-n.ensures) ready));
+      ready = subst (λ (y : ℕ). Ready Y y n W) (sym L) (subst (λ (y : ℕ). Ready Y m n y) (sym wide) (subst (λ (y : ℕ). Ready Y m y (width y)) (sym nodes) ready));
       ordered = c.requires.order E c.ends-pairs.ensures.long c.ends-pairs.ensures.each;
     }
 
@@ -43,15 +44,17 @@ returns g c xs a =
     let G = g.G.Graph.graph c.args.graph.now in
     let p = c.args.parsed.now in
     let m = p.query.count in
-    let n = c.node_count-n.result in
-    let W = c.width.result in
+    let n = c.of.result.count in
+    let nodes = c.of.ensures.count ∙ c.node_count-n.ensures in
+    let W = c.of.result.width in
+    let wide : W ≡ width n = c.of.ensures.width ∙ ap width (sym c.of.ensures.count) in
     let X = c.reduce_all.new.words in
     let Y = c.fill_each.new.words in
     let E = c.ends-pairs.result in
     let s = a.atoms in
     let same = ends_are E a.holds c.ends-pairs.ensures.long c.ends-pairs.ensures.each in
-    let passed = subst (λ (y : ℕ). Passed (of (ends s)) (number s) Y X y (width y)) c.node_count-n.ensures
-    (subst (λ (y : ℕ). Passed (of (ends s)) (number s) Y X n y) c.width.ensures
+    let passed = subst (λ (y : ℕ). Passed (of (ends s)) (number s) Y X y (width y)) nodes
+    (subst (λ (y : ℕ). Passed (of (ends s)) (number s) Y X n y) wide
     (subst (λ (y : ℕ). Passed (of (ends s)) y Y X n W) (ends_long s)
     (subst (λ (y : List Ends). Passed (of y) (length y) Y X n W) same c.reduce_all.ensures))) in
     let raw = subst (λ (y : ℕ). Raw G p.query.atoms y c.args.words.now Y y) a.holds.count c.fill_each.ensures in

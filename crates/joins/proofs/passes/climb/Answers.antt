@@ -7,17 +7,17 @@ use Rattle.joins.proofs.passes.climb.Goals as goal
 pub loop-i-init : goal.loop-i-init
 loop-i-init c =
     let o = c.args.order.now in
-    climbed_none (of c.args.atoms.now) (length c.args.atoms.now) c.requires.ordered.0 (ranks o.at o.rank o.parent o.shared o.fresh) c.requires.ordered.1
-    c.args.n c.args.w c.args.words.now c.requires.ready
+    climbed_none (of c.args.atoms.now) (length c.args.atoms.now) c.requires.ordered.0 (ranks o) c.requires.ordered.1
+    c.args.rows.count c.args.rows.width c.args.words.now c.requires.ready
 
 pub loop-i-preserved : goal.loop-i-preserved
 loop-i-preserved c =
     let o = c.args.order.now in
-    climbed_more (of c.args.atoms.now) (length c.args.atoms.now) c.requires.ordered.0 (ranks o.at o.rank o.parent o.shared o.fresh) c.requires.ordered.1
-    c.args.n c.args.w c.args.words.now c.loop-i.words c.semijoin.new.words c.loop-i.i (omega arith) (omega arith) c.loop-i.invariant c.semijoin.ensures
+    climbed_more (of c.args.atoms.now) (length c.args.atoms.now) c.requires.ordered.0 (ranks o) c.requires.ordered.1
+    c.args.rows.count c.args.rows.width c.args.words.now c.loop-i.words c.semijoin.new.words c.loop-i.i (omega arith) (omega arith) c.loop-i.invariant c.semijoin.ensures
 
 pub returns : goal.returns
 returns c =
     let o = c.args.order.now in
-    climbed_all (of c.args.atoms.now) (length c.args.atoms.now) c.requires.ordered.0 (ranks o.at o.rank o.parent o.shared o.fresh) c.requires.ordered.1
-    c.args.n c.args.w c.args.words.now c.loop-i.words c.loop-i.i c.loop-i-test.false c.loop-i.invariant
+    climbed_all (of c.args.atoms.now) (length c.args.atoms.now) c.requires.ordered.0 (ranks o) c.requires.ordered.1
+    c.args.rows.count c.args.rows.width c.args.words.now c.loop-i.words c.loop-i.i c.loop-i-test.false c.loop-i.invariant

@@ -6,4 +6,4 @@ use Rattle.joins.proofs.passes.descend.Given as goal
 
 abbrev pub invariant-loop-i : goal.invariant-loop-i
 invariant-loop-i l =
-    Descended (of l.atoms) (length l.atoms) (ranks l.order.at l.order.rank l.order.parent l.order.shared l.order.fresh) l.initial.words l.words l.n l.w l.i
+    Descended (of l.atoms) (length l.atoms) (ranks l.order) l.initial.words l.words l.rows.count l.rows.width l.i

@@ -7,5 +7,5 @@ use Rattle.joins.proofs.passes.reduce_all.Goals as goal
 pub returns : goal.returns
 returns c =
     let q = c.args.order.now in
-    passed_from (of c.args.atoms.now) (length c.args.atoms.now) c.requires.ordered.0 (ranks q.at q.rank q.parent q.shared q.fresh) c.requires.ordered.1
-    c.args.n c.args.w c.args.words.now c.climb.new.words c.descend.new.words c.climb.ensures c.descend.ensures
+    passed_from (of c.args.atoms.now) (length c.args.atoms.now) c.requires.ordered.0 (ranks q) c.requires.ordered.1
+    c.args.rows.count c.args.rows.width c.args.words.now c.climb.new.words c.descend.new.words c.climb.ensures c.descend.ensures

@@ -1,4 +1,4 @@
-use Rattle.std.proofs.Common.{◌*◌, ◌≤◌, eqb, length, arith, rules}
+use Rattle.std.proofs.Common.{◌*◌, ◌≤◌, sym, eqb, length, arith, rules}
 use Rattle.shapes.specs.Checks.{of}
 use Rattle.joins.proofs.Siding.{row_end, joined_from}
 use Rattle.joins.proofs.Placing.{reduced_from}
@@ -6,31 +6,29 @@ use Rattle.joins.proofs.passes.semijoin.Goals as goal
 
 pub overflow_mul-size : goal.overflow_mul-size
 overflow_mul-size c =
-    let l : c.args.n * c.args.w ≤ length c.args.words.now = omega (arith, row_end c.args.into (length c.args.atoms.now) (c.args.n * c.args.w) c.requires.into) in
+    let l : c.args.rows.count * c.args.rows.width ≤ length c.args.words.now = omega (arith, row_end c.args.into (length c.args.atoms.now) (c.args.rows.count * c.args.rows.width) c.requires.into) in
     search rules
 
 pub note-requires : goal.note-requires
 note-requires c = record {
-  apart = row_end c.args.from (length c.args.atoms.now) (c.args.n * c.args.w) c.requires.from;
+  apart = row_end c.args.from (length c.args.atoms.now) (c.args.rows.count * c.args.rows.width) c.requires.from;
   room = c.requires.room;
-  wide = c.requires.wide;
 }
 
 pub keep-requires : goal.keep-requires
 keep-requires c = record {
-  apart = row_end c.args.into (length c.args.atoms.now) (c.args.n * c.args.w) c.requires.into;
+  apart = row_end c.args.into (length c.args.atoms.now) (c.args.rows.count * c.args.rows.width) c.requires.into;
   room = omega arith;
-  wide = c.requires.wide;
 }
 
 pub returns : goal.returns
 returns c =
     let m = length c.args.atoms.now in
-    let n = c.args.n in
-    let w = c.args.w in
+    let n = c.args.rows.count in
+    let w = c.args.rows.width in
     let q = of c.args.atoms.now in
     let x = c.args.variable in
-    reduced_from q c.args.words.now c.clear.new.words m n w c.args.into c.args.from x c.requires.into c.requires.from c.requires.wide c.requires.ready
+    reduced_from q c.args.words.now c.clear.new.words m n w c.args.into c.args.from x c.requires.into c.requires.from c.args.rows.wide c.requires.ready
     (joined_from c.args.words.now c.note.new.words c.keep.new.words c.clear.new.words (c.args.into * (n * w)) (c.args.from * (n * w)) n w (m * (n * w))
     (eqb x (q.first c.args.into)) (eqb x (q.first c.args.from))
-    (row_end c.args.into m (n * w) c.requires.into) (row_end c.args.from m (n * w) c.requires.from) c.requires.wide c.note.ensures c.keep.ensures c.clear.ensures)
+    (row_end c.args.into m (n * w) c.requires.into) (row_end c.args.from m (n * w) c.requires.from) c.args.rows.wide (rw (sym c.of.ensures) c.note.ensures) (rw (sym c.of-2.ensures) c.keep.ensures) c.clear.ensures)

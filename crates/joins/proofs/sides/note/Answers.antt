@@ -1,14 +1,25 @@
-use Rattle.std.proofs.Common.{Bool, true, false, sym, subst}
-use Rattle.joins.specs.Sides.{Noted}
-use Rattle.joins.proofs.Siding.{noted_from}
+use Rattle.std.proofs.Common.{◌≡◌, ◌+◌, ◌*◌, ◌≤◌, Bool, true, false, ap, sym, subst, arith}
+use Rattle.joins.specs.Sides.{NotedToo, is_first}
+use Rattle.joins.proofs.Siding.{row_end, noted_more, noted_wider, noted_from}
+use Rattle.joins.proofs.sides.note.Goals.{in-First, in-Second}
 use Rattle.joins.proofs.sides.note.Goals as goal
 
-pub returns-then-first : goal.returns-then-first
-returns-then-first c =
-    subst (λ (b : Bool). Noted c.args.words.now c.note_firsts.new.words c.args.start c.args.n c.args.w c.args.mask b) (sym c.if-first.true)
-    (noted_from c.args.words.now c.clear.new.words c.note_firsts.new.words c.args.start c.args.n c.args.w c.args.mask true c.requires.apart c.clear.ensures c.note_firsts.ensures)
+pub loop-u-preserved : goal.loop-u-preserved
+loop-u-preserved c =
+    let u = c.loop-u.u in
+    let w = c.args.rows.width in
+    let fits : c.args.start + u * w + w ≤ c.args.mask = omega (arith, row_end u c.args.rows.count w (omega arith)) in
+    let before : Bool → Type 0 = λ b. NotedToo c.clear.new.words c.loop-u.words c.args.start u w c.args.mask b in
+    let after : Bool → Type 0 = λ b. NotedToo c.clear.new.words c.match-side.words c.args.start (u + 1) w c.args.mask b in
+    elim c.match-side.branch [
+      | in-First x ↦ (let is : is_first c.args.side ≡ true = ap is_first x.in-First.is in
+          subst after (sym is) (rw x.words-is (noted_more c.clear.new.words c.loop-u.words _ c.args.start u w c.args.mask fits (subst before is c.loop-u.invariant) x.note_row.ensures)))
+      | in-Second x ↦ (let is : is_first c.args.side ≡ false = ap is_first x.in-Second.is in
+          subst after (sym is) (rw x.words-is (noted_wider c.clear.new.words c.loop-u.words _ c.args.start u w c.args.mask fits (subst before is c.loop-u.invariant) x.widen.ensures)))
+    ]
 
-pub returns-else-first : goal.returns-else-first
-returns-else-first c =
-    subst (λ (b : Bool). Noted c.args.words.now c.note_seconds.new.words c.args.start c.args.n c.args.w c.args.mask b) (sym c.if-first.false)
-    (noted_from c.args.words.now c.clear.new.words c.note_seconds.new.words c.args.start c.args.n c.args.w c.args.mask false c.requires.apart c.clear.ensures c.note_seconds.ensures)
+pub returns : goal.returns
+returns c =
+    let all : c.loop-u.u ≡ c.args.rows.count = omega (arith, c.loop-u-test.false, c.loop-u.auto.u-end) in
+    noted_from c.args.words.now c.clear.new.words c.loop-u.words c.args.start c.args.rows.count c.args.rows.width c.args.mask (is_first c.args.side) c.requires.apart c.clear.ensures
+    (subst (λ k. NotedToo c.clear.new.words c.loop-u.words c.args.start k c.args.rows.width c.args.mask (is_first c.args.side)) all c.loop-u.invariant)

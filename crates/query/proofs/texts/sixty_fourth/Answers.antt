@@ -1,19 +1,31 @@
-use Rattle.std.proofs.Common.{get_or, sym, arith}
-use Rattle.query.proofs.Letters.{sought_none, sought_more, sought_here, sought_nowhere, weighs, weighs_not}
+use Rattle.std.proofs.Common.{◌≡◌, ℕ, ◌+◌, ◌-◌, ◌<◌, length, get_or, sym, ap, ◌∙◌, subst, arith}
+use Rattle.query.specs.Limits.{symbol}
+use Rattle.query.proofs.Letters.{Sought, sought_more, sought_here, sought_nowhere, weighs, weighs_not, read_from, length_from}
 use Rattle.query.proofs.texts.sixty_fourth.Goals.{then-is_symbol+else-seen-eq63, else-is_symbol}
 use Rattle.query.proofs.texts.sixty_fourth.Goals as goal
 
-pub loop-at-init : goal.loop-at-init
-loop-at-init c = sought_none _ _
-
 pub returns-then-seen-eq63 : goal.returns-then-seen-eq63
-returns-then-seen-eq63 c = λ h. sought_here c.loop-at-test.true c.loop-at.invariant (sym c.if-is_symbol.ensures) c.if-seen-eq63.true
+returns-then-seen-eq63 c = λ h.
+    let xs = c.args.text.now in
+    let long = length_from xs c.args.from in
+    let low : c.loop-i.i < length xs - c.args.from = omega (arith, long, c.loop-i-test.true) in
+    sought_here {xs = xs} (omega (arith, low)) c.loop-i.invariant (ap symbol (sym (read_from xs c.args.from c.loop-i.i c.requires low)) ∙ sym c.if-is_symbol.ensures) c.if-seen-eq63.true
 
-pub loop-at-preserved : goal.loop-at-preserved
-loop-at-preserved c = elim c.if-is_symbol.branch [
-  | then-is_symbol+else-seen-eq63 w ↦ (let e = weighs (get_or c.args.text.now c.loop-at.at 0) (sym w.if-is_symbol.ensures) in let g = w.if-seen-eq63.false in sought_more c.if-is_symbol.seen c.loop-at-test.true c.loop-at.invariant (omega (arith, w.seen-is)) (omega (arith, w.seen-is, c.loop-at.invariant.few)))
-  | else-is_symbol w ↦ (let e = weighs_not (get_or c.args.text.now c.loop-at.at 0) (sym w.if-is_symbol.ensures) in sought_more c.if-is_symbol.seen c.loop-at-test.true c.loop-at.invariant (omega (arith, w.seen-is)) (omega (arith, w.seen-is, c.loop-at.invariant.few)))
-]
+pub loop-i-preserved : goal.loop-i-preserved
+loop-i-preserved c =
+    let xs = c.args.text.now in
+    let from = c.args.from in
+    let i = c.loop-i.i in
+    let long = length_from xs from in
+    let low : i < length xs - from = omega (arith, long, c.loop-i-test.true) in
+    let at : from + i < length xs = omega (arith, low) in
+    let read = read_from xs from i c.requires low in
+    let next : from + i + 1 ≡ from + (i + 1) = omega arith in
+    subst (λ (k : ℕ). Sought xs from k c.if-is_symbol.seen) next
+    (elim c.if-is_symbol.branch [
+      | then-is_symbol+else-seen-eq63 w ↦ (let e = weighs (get_or xs (from + i) 0) (ap symbol (sym read) ∙ sym w.if-is_symbol.ensures) in let g = w.if-seen-eq63.false in sought_more c.if-is_symbol.seen at c.loop-i.invariant (omega (arith, w.seen-is, e)) (omega (arith, w.seen-is, c.loop-i.invariant.few, g)))
+      | else-is_symbol w ↦ (let e = weighs_not (get_or xs (from + i) 0) (ap symbol (sym read) ∙ sym w.if-is_symbol.ensures) in sought_more c.if-is_symbol.seen at c.loop-i.invariant (omega (arith, w.seen-is, e)) (omega (arith, w.seen-is, c.loop-i.invariant.few)))
+    ])
 
 pub returns : goal.returns
-returns c = λ h. absurd (sought_nowhere (omega arith) c.loop-at.invariant h)
+returns c = λ h. absurd (sought_nowhere (omega (arith, length_from c.args.text.now c.args.from, c.loop-i-test.false)) c.loop-i.invariant h)

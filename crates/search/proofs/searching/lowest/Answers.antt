@@ -1,64 +1,74 @@
-use Rattle.std.proofs.Common.{ℕ, ◌+◌, ◌-◌, ◌<◌, ◌≤◌, false, set, replicate, sym, refl, ◌∙◌, subst, inl, inr, arith}
+use Rattle.std.proofs.Common.{◌≡◌, ℕ, ◌+◌, ◌-◌, ◌<◌, ◌≤◌, true, false, List, [], length, Option, IfSome, set, replicate, sym, refl, ◌∙◌, subst, inl, inr, arith, rules}
 use Rattle.std.proofs.lemmas.Bool.{both_ways, cases_eq}
-use Rattle.meaning.specs.Tuples.{node}
-use Rattle.joins.specs.Layouts.{tables}
-use Rattle.search.specs.Heads.{placed}
+use Rattle.meaning.specs.Tuples.{node, Within, noted_of, last_of}
+use Rattle.search.specs.Heads.{placed, relations}
 use Rattle.search.specs.Places.{Goes}
 use Rattle.search.proofs.Testing.{goes_prefix}
-use Rattle.search.proofs.Moves.{least_from, all_from_fits, State, put_set, rise, descend, ascend_at, start_low, start_last, finish, none, state_at, step_down, step_up}
+use Rattle.search.proofs.Moves.{least_from, State, put_set, rise, descend, ascend_at, start_low, start_last, finish, state_at, step_down, step_up}
 use Rattle.search.proofs.searching.lowest.Goals as goal
-use Rattle.search.proofs.searching.lowest.Goals.{then-noted, then-loop-at-test+else-goes, else-loop-at-test, else-noted, then-loop-cur-test+then-goes-2+then-at-h, else-loop-cur-test+then-at-eq0}
+use Rattle.search.proofs.searching.lowest.Goals.{in-Some, then-loop-at-test+else-goes, else-loop-at-test, in_default}
 
 pub search-init : goal.search-init
 search-init c =
-    let go = Goes (placed c.args.places.now) (tables c.args.words.now c.args.places.now.atoms c.args.n c.args.w) in
-    let pre = goes_prefix (placed c.args.places.now) (tables c.args.words.now c.args.places.now.atoms c.args.n c.args.w) in
-    let n = c.args.n in
-    let h = c.args.h in
-    let l = c.args.last.now in
+    let t = c.args.tables.now in
+    let go = Goes (placed t.places.now) (relations t) in
+    let pre = goes_prefix (placed t.places.now) (relations t) in
+    let n = t.rows.count in
+    let h = t.places.now.free in
     let few : h ≤ 26 = c.requires.head.1 in
-    elim c.if-noted.branch [
-      | then-noted w ↦
-          (let a = w.loop-at.at in
+    let P : Option (List ℕ) → Type 0 = λ o. State go n h (noted_of o) (last_of o) c.match-last.cur c.match-last.at in
+    elim c.match-last.branch [
+      | in-Some w ↦
+          (let l = w.in-Some.tuple in
+          let a = w.loop-at.at in
           let d : a < h = w.loop-at.invariant.0 in
-          let p = put_set l a (node l a + 1) c.told-last (omega arith) in
-          let start = start_last go pre n h c.args.noted l (set l a (node l a + 1)) a w.if-noted.true d few (c.requires.inside w.if-noted.true) w.loop-at.invariant.1 in
-          state_at go n h c.args.noted l c.if-noted.cur (set l a (node l a + 1)) c.if-noted.at a w.cur-is w.at-is
+          let long : length l ≡ 26 = search rules in
+          let p = put_set l a (node l a + 1) long (omega arith) in
+          let within : Within n h l = subst (λ (o : Option (List ℕ)). IfSome o (Within n h)) w.in-Some.is c.requires.inside in
+          let start = start_last go pre n h true l (set l a (node l a + 1)) a refl d few within w.loop-at.invariant.1 in
+          subst P (sym w.in-Some.is)
+          (state_at go n h true l c.match-last.cur (set l a (node l a + 1)) c.match-last.at a w.cur-is w.at-is
           (start (elim w.loop-at-test.branch [
             | then-loop-at-test+else-goes v ↦ inr (λ g. both_ways false refl (v.if-goes.ensures.1 g))
             | else-loop-at-test v ↦ inl (omega (arith, v.loop-at-test.false))
-          ]) p))
-      | else-noted w ↦
-          state_at go n h c.args.noted l c.if-noted.cur (replicate 26 0) c.if-noted.at 0 w.cur-is w.at-is
-          (start_low go pre n h c.args.noted l w.if-noted.false c.requires.head.0 few)
+          ]) p)))
+      | in_default w ↦
+          subst P (sym w.in_default.is)
+          (state_at go n h false [] c.match-last.cur (replicate 26 0) c.match-last.at 0 w.cur-is w.at-is
+          (start_low go pre n h false [] refl c.requires.head.0 few))
     ]
 
 pub search-smaller-then-goes-2 : goal.search-smaller-then-goes-2
 search-smaller-then-goes-2 c =
     let i = c.loop-cur.invariant in
     let s = i.0 in
-    let d : c.loop-cur.at < c.args.h = s.depth in
-    let f : c.args.h ≤ 26 = s.few in
-    step_down c.args.n c.args.h c.loop-cur.at c.search.at c.search.cur c.loop-cur.cur _ i.1 (omega arith) i.2 i.3 c.loop-cur-test.true
+    let n = c.args.tables.now.rows.count in
+    let h = c.args.tables.now.places.now.free in
+    let d : c.loop-cur.at < h = s.depth in
+    let f : h ≤ 26 = s.few in
+    step_down n h c.loop-cur.at c.search.at c.search.cur c.loop-cur.cur _ i.1 (omega arith) i.2 i.3 c.loop-cur-test.true
     (put_set c.loop-cur.cur (c.loop-cur.at + 1) 0 s.size (omega arith))
 
 pub search-preserved-then-goes-2 : goal.search-preserved-then-goes-2
 search-preserved-then-goes-2 c =
-    let i = c.loop-cur.invariant in
-    let s = i.0 in
-    let d : c.loop-cur.at < c.args.h = s.depth in
-    let f : c.args.h ≤ 26 = s.few in
-    descend (Goes (placed c.args.places.now) (tables c.args.words.now c.args.places.now.atoms c.args.n c.args.w)) (goes_prefix (placed c.args.places.now) (tables c.args.words.now c.args.places.now.atoms c.args.n c.args.w)) c.args.n c.args.h c.args.noted c.args.last.now c.loop-cur.cur _ c.loop-cur.at s
+    let t = c.args.tables.now in
+    let h = t.places.now.free in
+    let s = c.loop-cur.invariant.0 in
+    let d : c.loop-cur.at < h = s.depth in
+    let f : h ≤ 26 = s.few in
+    descend (Goes (placed t.places.now) (relations t)) (goes_prefix (placed t.places.now) (relations t)) t.rows.count h (noted_of c.args.last) (last_of c.args.last) c.loop-cur.cur _ c.loop-cur.at s
     (put_set c.loop-cur.cur (c.loop-cur.at + 1) 0 s.size (omega arith)) c.loop-cur-test.true (c.if-goes-2.ensures.0 refl) (omega arith)
 
 pub loop-cur-preserved : goal.loop-cur-preserved
 loop-cur-preserved c =
+    let t = c.args.tables.now in
+    let h = t.places.now.free in
     let i = c.loop-cur.invariant in
     let s = i.0 in
-    let d : c.loop-cur.at < c.args.h = s.depth in
-    let f : c.args.h ≤ 26 = s.few in
+    let d : c.loop-cur.at < h = s.depth in
+    let f : h ≤ 26 = s.few in
     let p = put_set c.loop-cur.cur c.loop-cur.at (node c.loop-cur.cur c.loop-cur.at + 1) s.size (omega arith) in (
-      rise (Goes (placed c.args.places.now) (tables c.args.words.now c.args.places.now.atoms c.args.n c.args.w)) (goes_prefix (placed c.args.places.now) (tables c.args.words.now c.args.places.now.atoms c.args.n c.args.w)) c.args.n c.args.h c.args.noted c.args.last.now c.loop-cur.cur _ c.loop-cur.at s p c.loop-cur-test.true (λ g. both_ways false refl (c.if-goes-2.ensures.1 g)),
+      rise (Goes (placed t.places.now) (relations t)) (goes_prefix (placed t.places.now) (relations t)) t.rows.count h (noted_of c.args.last) (last_of c.args.last) c.loop-cur.cur _ c.loop-cur.at s p c.loop-cur-test.true (λ g. both_ways false refl (c.if-goes-2.ensures.1 g)),
       i.1,
       (λ k ka. p.other k ka ∙ i.2 k ka),
       omega (arith, p.new, i.3),
@@ -66,49 +76,40 @@ loop-cur-preserved c =
 
 pub search-smaller : goal.search-smaller
 search-smaller c =
+    let n = c.args.tables.now.rows.count in
+    let h = c.args.tables.now.places.now.free in
     let i = c.loop-cur.invariant in
     let s = i.0 in
-    let d : c.loop-cur.at < c.args.h = s.depth in
-    let f : c.args.h ≤ 26 = s.few in
+    let d : c.loop-cur.at < h = s.depth in
+    let f : h ≤ 26 = s.few in
     let pos : 0 < c.loop-cur.at = omega arith in
-    step_up c.args.n c.args.h c.loop-cur.at c.search.at c.search.cur c.loop-cur.cur _ i.1 pos d i.2 (s.before (c.loop-cur.at - 1) (omega arith))
+    step_up n h c.loop-cur.at c.search.at c.search.cur c.loop-cur.cur _ i.1 pos d i.2 (s.before (c.loop-cur.at - 1) (omega arith))
     (put_set c.loop-cur.cur (c.loop-cur.at - 1) (node c.loop-cur.cur (c.loop-cur.at - 1) + 1) s.size (omega arith))
 
 pub search-preserved : goal.search-preserved
 search-preserved c =
-    let i = c.loop-cur.invariant in
-    let s = i.0 in
-    let d : c.loop-cur.at < c.args.h = s.depth in
-    let f : c.args.h ≤ 26 = s.few in
-    ascend_at (Goes (placed c.args.places.now) (tables c.args.words.now c.args.places.now.atoms c.args.n c.args.w)) (goes_prefix (placed c.args.places.now) (tables c.args.words.now c.args.places.now.atoms c.args.n c.args.w)) c.args.n c.args.h c.args.noted c.args.last.now c.loop-cur.cur _ c.loop-cur.at (omega arith) s
+    let t = c.args.tables.now in
+    let h = t.places.now.free in
+    let s = c.loop-cur.invariant.0 in
+    let d : c.loop-cur.at < h = s.depth in
+    let f : h ≤ 26 = s.few in
+    ascend_at (Goes (placed t.places.now) (relations t)) (goes_prefix (placed t.places.now) (relations t)) t.rows.count h (noted_of c.args.last) (last_of c.args.last) c.loop-cur.cur _ c.loop-cur.at (omega arith) s
     (put_set c.loop-cur.cur (c.loop-cur.at - 1) (node c.loop-cur.cur (c.loop-cur.at - 1) + 1) s.size (omega arith)) c.loop-cur-test.false
 
-pub returns-then-found : goal.returns-then-found
-returns-then-found c =
-    let i = c.loop-cur.invariant in
-    elim c.loop-cur-test.branch [
-      | then-loop-cur-test+then-goes-2+then-at-h w ↦
-          least_from (placed c.args.places.now) (tables c.args.words.now c.args.places.now.atoms c.args.n c.args.w) c.args.n c.args.h c.args.noted c.args.last.now c.loop-cur.cur c.requires.head.0
-          (finish (Goes (placed c.args.places.now) (tables c.args.words.now c.args.places.now.atoms c.args.n c.args.w)) (goes_prefix (placed c.args.places.now) (tables c.args.words.now c.args.places.now.atoms c.args.n c.args.w)) c.args.n c.args.h c.args.noted c.args.last.now c.loop-cur.cur c.loop-cur.at i.0 w.loop-cur-test.true (w.if-goes-2.ensures.0 refl) w.if-at-h.true)
-      | else-loop-cur-test+then-at-eq0 w ↦ absurd (both_ways c.loop-cur-test.found w.found-is c.if-found.true)
-    ]
-
-pub returns-else-found : goal.returns-else-found
-returns-else-found c =
-    elim c.loop-cur-test.branch [
-      | then-loop-cur-test+then-goes-2+then-at-h w ↦ absurd (both_ways c.loop-cur-test.found c.if-found.false w.found-is)
-      | else-loop-cur-test+then-at-eq0 w ↦
-          (let F : ℕ → Type 0 = λ a. State (Goes (placed c.args.places.now) (tables c.args.words.now c.args.places.now.atoms c.args.n c.args.w)) c.args.n c.args.h c.args.noted c.args.last.now c.loop-cur.cur a in
-          let G : ℕ → Type 0 = λ a. c.args.n ≤ node c.loop-cur.cur a in
-          (λ ys f ab. none (Goes (placed c.args.places.now) (tables c.args.words.now c.args.places.now.atoms c.args.n c.args.w)) (goes_prefix (placed c.args.places.now) (tables c.args.words.now c.args.places.now.atoms c.args.n c.args.w)) c.args.n c.args.h c.args.noted c.args.last.now c.loop-cur.cur
-          (subst F w.if-at-eq0.true c.loop-cur.invariant.0) (subst G w.if-at-eq0.true w.loop-cur-test.false) ys (all_from_fits (placed c.args.places.now) (tables c.args.words.now c.args.places.now.atoms c.args.n c.args.w) c.args.n c.args.h ys f) ab))
-    ]
+pub returns-then-at-free : goal.returns-then-at-free
+returns-then-at-free c =
+    let t = c.args.tables.now in
+    let n = t.rows.count in
+    let h = t.places.now.free in
+    least_from (placed t.places.now) (relations t) n h (noted_of c.args.last) (last_of c.args.last) c.loop-cur.cur c.requires.head.0
+    (finish (Goes (placed t.places.now) (relations t)) (goes_prefix (placed t.places.now) (relations t)) n h (noted_of c.args.last) (last_of c.args.last) c.loop-cur.cur c.loop-cur.at c.loop-cur.invariant.0 c.loop-cur-test.true (c.if-goes-2.ensures.0 refl) c.if-at-free.true)
 
 pub loop-at-preserved : goal.loop-at-preserved
 loop-at-preserved c = (
   omega arith,
   λ k ka. elim (cases_eq k c.loop-at.at) [
-    | inl e ↦ (let F : ℕ → Type 0 = λ j. Goes (placed c.args.places.now) (tables c.args.words.now c.args.places.now.atoms c.args.n c.args.w) j c.args.last.now in
+    | inl e ↦ (let t = c.args.tables.now in
+        let F : ℕ → Type 0 = λ j. Goes (placed t.places.now) (relations t) j c.in-Some.tuple in
         subst F (sym e) (c.if-goes.ensures.0 refl))
     | inr d ↦ c.loop-at.invariant.1 k (omega arith)
   ],

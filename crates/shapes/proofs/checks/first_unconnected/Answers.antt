@@ -1,13 +1,18 @@
-use Rattle.std.proofs.Common.{length, arith, below_more}
-use Rattle.shapes.specs.Checks.{of}
+use Rattle.std.proofs.Common.{◌≡◌, length, slice_index, rules}
+use borrow.Author.Tests.{tests}
+use Rattle.std.proofs.lemmas.Iterator.{IsFirst-from_position, YieldsList-from_slice}
+use Rattle.meaning.proofs.Firsts.{first_from_position}
+use Rattle.shapes.specs.Checks.{of, Unconnected, blank}
+use Rattle.shapes.specs.declared.checks.Ends.{Ends}
 use Rattle.shapes.proofs.Merging.{reached_from_class, class_from_reached}
 use Rattle.shapes.proofs.checks.first_unconnected.Goals as goal
 
-pub returns-then-class-a : goal.returns-then-class-a
-returns-then-class-a c = (omega arith, (λ r. c.if-class-a.true (class_from_reached (of c.args.atoms.now) (length c.args.atoms.now) c.args.class.now c.requires c.loop-i.i r)), c.loop-i.invariant)
-
-pub loop-i-preserved : goal.loop-i-preserved
-loop-i-preserved c = below_more _ _ c.loop-i.invariant (λ n. n (reached_from_class (of c.args.atoms.now) (length c.args.atoms.now) c.args.class.now c.requires c.loop-i.i c.loop-i-test.true c.if-class-a.false))
-
 pub returns : goal.returns
-returns c j lt = c.loop-i.invariant j (omega arith)
+returns c =
+    let q = of c.args.atoms.now in
+    let class = c.args.class.now in
+    let Same : Ends → Type 0 = λ a. slice_index class a.first ≡ slice_index class (q.first 0) in
+    first_from_position (Unconnected c.args.atoms.now) (λ a. Same a → ⊥) Same c.args.atoms.now blank _
+    (λ i lt n r. n (class_from_reached q (length c.args.atoms.now) class c.requires i r))
+    (λ i lt s n. n (reached_from_class q (length c.args.atoms.now) class c.requires i lt s))
+    (IsFirst-from_position _ _ _ (λ a. Same a → ⊥) Same c.position.ensures.ran (YieldsList-from_slice c.args.atoms.now c.iter.ensures.rest) (λ x q k. search (rules, tests)) (λ x q k. search (rules, tests)))

@@ -15,9 +15,9 @@ loop-t-init c q l = those_none _
 
 pub loop-t-preserved : goal.loop-t-preserved
 loop-t-preserved c q l =
-    let P = λ (t : ℕ). Matches q (meant (get_or c.args.auto.now.symbols t Any)) c.args.label in
+    let P = λ (t : ℕ). Matches q (meant (get_or c.args.automaton.now.symbols t Any)) c.args.label in
     let t = c.loop-t.t in
-    let symbols = c.args.auto.now.symbols in
+    let symbols = c.args.automaton.now.symbols in
     let long : length symbols ≡ 64 = search rules in
     let same = get_or_default symbols t (Label 0) Any (omega arith) in
     let reads = subst (λ (y : Symbol). Decides c.reads.result (Matches q (meant y) c.args.label)) same (c.reads.ensures q l) in
@@ -30,5 +30,5 @@ loop-t-preserved c q l =
 pub returns : goal.returns
 returns c q t l =
     let i : c.loop-t.t ≡ 64 = omega arith in
-    let P = λ (t : ℕ). Matches q (meant (get_or c.args.auto.now.symbols t Any)) c.args.label in
+    let P = λ (t : ℕ). Matches q (meant (get_or c.args.automaton.now.symbols t Any)) c.args.label in
     subst (λ (y : ℕ). Those P y c.loop-t.states) i (c.loop-t.invariant q l) t

@@ -4,18 +4,20 @@ use Rattle.bits.specs.Bits.{Has}
 use Rattle.walk.specs.Moves.{Enters}
 use Rattle.walk.proofs.masks.masks.Goals as goal
 
-pub loop-a-preserved : goal.loop-a-preserved
-loop-a-preserved c =
-    let M = c.loop-a.masks in
-    let i = c.loop-a.a in
+pub loop-label-preserved : goal.loop-label-preserved
+loop-label-preserved c =
+    let M = c.loop-label.states-items in
+    let i = c.loop-label.label in
     let r = c.entered_by.result in
-    let q = c.args.labels in
-    let m = c.args.auto.now in
-    let here : i < length M = omega (arith, c.loop-a.invariant.0) in (
-      simp length-set c.loop-a.invariant.0,
-      λ a t h. ⊎_elim
+    let m = c.args.automaton.now in
+    let here : i < length M = omega (arith, c.loop-label.invariant.0) in (
+      simp length-set c.loop-label.invariant.0,
+      λ q a t h l. ⊎_elim
           (λ (e : a ≡ i). subst (λ (y : ℕ). Has (get_or (set M i r) y 0) t ↔ Enters q m t y) (sym e)
-          (subst (λ (y : ℕ). Has y t ↔ Enters q m t i) (sym (get_or-set_same M i r 0 here)) (c.entered_by.ensures q t c.loop-a-test.true)))
-          (λ (n : a ≢ i). subst (λ (y : ℕ). Has y t ↔ Enters q m t a) (sym (get_or-set_other M i a r 0 n)) (c.loop-a.invariant.1 a t (omega arith)))
+          (subst (λ (y : ℕ). Has y t ↔ Enters q m t i) (sym (get_or-set_same M i r 0 here)) (c.entered_by.ensures q t (omega (arith, l, e)))))
+          (λ (n : a ≢ i). subst (λ (y : ℕ). Has y t ↔ Enters q m t a) (sym (get_or-set_other M i a r 0 n)) (c.loop-label.invariant.1 q a t (omega arith) l))
           (cases_eq a i),
     )
+
+pub returns-clause-each : goal.returns-clause-each
+returns-clause-each c q few a t l = c.loop-label.invariant.1 q a t (omega (arith, few, l, c.loop-label.invariant.0, c.loop-label-test.false)) l

@@ -3,5 +3,5 @@ use Rattle.bits.specs.Bits.{Has}
 use Rattle.walk.specs.Moves.{Enters}
 use Rattle.walk.proofs.masks.masks.Given as goal
 
-abbrev pub invariant-loop-a : goal.invariant-loop-a
-invariant-loop-a l = (length l.masks ≡ 26) × ((a t : ℕ) → a < l.a → Has (get_or l.masks a 0) t ↔ Enters l.labels l.auto' t a)
+abbrev pub invariant-loop-label : goal.invariant-loop-label
+invariant-loop-label l = (length l.states-items ≡ 26) × ((q a t : ℕ) → a < l.label → a < q → Has (get_or l.states-items a 0) t ↔ Enters q l.automaton t a)

@@ -1,30 +1,27 @@
-use Rattle.std.proofs.Common.{◌<◌, arith, rules}
-use Rattle.bits.proofs.Sets.{has_below, some_bit}
+use Rattle.std.proofs.Common.{◌≡◌, ap, arith, rules}
+use Rattle.bits.specs.declared.members.Members.{Members}
+use Rattle.bits.proofs.Sets.{has_below}
 use Rattle.walk.proofs.Unions.{following_none, following_more, following_all}
 use Rattle.walk.proofs.masks.successors.Goals as goal
 
 pub loop-s-init : goal.loop-s-init
-loop-s-init c = (omega arith, following_none c.args.auto.now c.args.states)
+loop-s-init c =
+    let is : c.into_iter-s-iterator.result.0 ≡ c.args.states = ap (λ (m : Members). m.0) c.into_iter-s-iterator.ensures.into_iter_gives in
+    rw is (omega arith, following_none c.args.automaton.now c.args.states)
 
 -- a state is below 64
-below : (c : goal.In-Some) → c.in-Some.s < 64
-below c = has_below c.loop-s.rest c.in-Some.s c.loop-s.invariant.0 c.in-Some.ensures.1
+pub bounds-automaton-s : goal.bounds-automaton-s
+bounds-automaton-s c = has_below c.loop-s.s-iterator.0 c.in-Some.s c.loop-s.invariant.0 c.in-Some.ensures.steps.0.1
 
-pub offset_bounds-auto-s : goal.offset_bounds-auto-s
-offset_bounds-auto-s c = let l = below c in search rules
-
-pub bounds-auto-s : goal.bounds-auto-s
-bounds-auto-s c = has_below c.loop-s.rest c.in-Some.s c.loop-s.invariant.0 c.in-Some.ensures.1
-
-pub loop-s-smaller : goal.loop-s-smaller
-loop-s-smaller c = c.without_lowest-rest.ensures.less (some_bit c.loop-s.rest c.in-Some.s c.in-Some.ensures.1)
+pub offset_bounds-automaton-s : goal.offset_bounds-automaton-s
+offset_bounds-automaton-s c = let l = has_below c.loop-s.s-iterator.0 c.in-Some.s c.loop-s.invariant.0 c.in-Some.ensures.steps.0.1 in search rules
 
 pub loop-s-preserved : goal.loop-s-preserved
-loop-s-preserved c = (
-  c.without_lowest-rest.type_inv,
-  following_more c.args.auto.now c.args.states c.loop-s.rest c.without_lowest-rest.result c.loop-s.next c.in-Some.s
-      c.in-Some.ensures (λ j. c.without_lowest-rest.ensures.bits c.in-Some.s j c.in-Some.ensures) c.loop-s.invariant.1,
-)
+loop-s-preserved c =
+    let takes = c.in-Some.ensures.steps in (
+      (let less = c.next.ensures.goes in search rules),
+      following_more c.args.automaton.now c.args.states c.loop-s.s-iterator.0 c.next.new.self.0 c.loop-s.next c.in-Some.s takes.0 takes.1 c.loop-s.invariant.1,
+    )
 
 pub returns : goal.returns
-returns c = following_all c.args.auto.now c.args.states c.loop-s.rest c.loop-s.next c.in_default.ensures c.loop-s.invariant.1
+returns c = following_all c.args.automaton.now c.args.states c.loop-s.s-iterator.0 c.loop-s.next c.in-None.ensures.steps c.loop-s.invariant.1

@@ -1,4 +1,4 @@
-use Rattle.std.proofs.Common.{◌-◌, ◌≤◌, vec_items}
+use Rattle.std.proofs.Common.{◌≡◌, ◌≤◌, vec_items}
 use Rattle.graph.specs.Edges.{edge}
 use Rattle.wiring.specs.Listing.{Lists, WireBelow}
 use Rattle.wiring.proofs.listing.push_row.Given as goal
@@ -6,9 +6,10 @@ use Rattle.wiring.proofs.listing.push_row.Given as goal
 abbrev pub invariant-loop-to : goal.invariant-loop-to
 invariant-loop-to g l =
     let m = g.G.Graph.graph l.graph in
-    (l.bound ≤ m.nodes)
+    let i = l.to-iterator in
+    (i.graph.now ≡ l.graph)
+    × (i.node ≡ l.node)
+    × (i.label ≡ l.label)
+    × (i.bound ≤ 1024)
     × (Lists (WireBelow m (edge l.node l.label 0)) (vec_items l.initial.list)
-    → Lists (WireBelow m (edge l.node l.label l.bound)) (vec_items l.list))
-
-abbrev pub decreases-loop-to : goal.decreases-loop-to
-decreases-loop-to g l = (g.G.Graph.graph l.graph).nodes - l.bound
+    → Lists (WireBelow m (edge l.node l.label i.bound)) (vec_items l.list))

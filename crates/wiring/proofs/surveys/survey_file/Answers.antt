@@ -1,5 +1,5 @@
 use Rattle.std.proofs.Common.{◌≡◌, ℕ, List, [], Some, Ok, vec_items, Option, sym, ◌∙◌, subst}
-use Rattle.graph.specs.declared.list.Sizes.{Sizes}
+use Rattle.graph.specs.declared.sizes.Sizes.{Sizes}
 use Rattle.wiring.specs.declared.faults.Refusal.{Refusal}
 use Rattle.wiring.specs.Reading.{Reached, Read}
 use Rattle.wiring.specs.Surveys.{Opens}
@@ -11,7 +11,7 @@ returns-in_ok-standing-in-Some c =
     let bs = c.args.bytes.now in
     let h = c.in-Ok.ensures in
     let same : t.bytes.now ≡ bs = h.bytes ∙ c.new-reader.ensures.bytes in
-    let opened = subst (λ (z : Option Sizes). Opens 200 c.new-reader.result.bytes.now (Ok z) t.at t.phase) c.in-Some.is h.opens in
+    let opened = subst (λ (z : Option (Sizes 1024)). Opens 200 c.new-reader.result.bytes.now (Ok z) t.at t.phase) c.in-Some.is h.opens in
     let read = c.in_ok-standing-in-Some.ensures 200
     (λ g new.
     subst (λ (z : List Refusal). Reached 200 4096 t.bytes.now t.at (Some g) z) (sym c.new-refusals.ensures.items)

@@ -12,9 +12,8 @@ invariant_of-self c =
     let old = among xs s.len in
     let new = among (set xs s.len e) (s.len + 1) in
     let change = among_append xs s.len e c.requires.room in record {
-      sized = s.sized;
       within = simp length-set (omega arith);
-      legal = legal_changed s.nodes s.labels e true old new c.requires.legal change s.legal;
+      legal = legal_changed s.sizes.nodes s.sizes.labels e true old new c.requires.legal change s.legal;
       distinct = distinct_append xs s.len e c.requires.room s.distinct c.requires.new;
-      counted = count_put s.nodes s.labels e old new c.requires.legal c.requires.new change ∙ ap (λ k. k + 1) s.counted;
+      counted = count_put s.sizes.nodes s.sizes.labels e old new c.requires.legal c.requires.new change ∙ ap (λ k. k + 1) s.counted;
     }

@@ -6,8 +6,7 @@ use Rattle.graph.proofs.list.EdgeList.new.Goals as goal
 
 pub invariant_of-result : goal.invariant_of-result
 invariant_of-result c =
-    let sized = c.args.sizes.sized in record {
-      sized = search rules;
+    record {
       within = omega arith;
       legal = λ e t. absurd (false≢true t);
       distinct = λ i l. absurd (omega arith);

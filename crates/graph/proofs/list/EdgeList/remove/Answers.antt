@@ -15,11 +15,10 @@ invariant_of-self c =
     let there = among_at xs s.len i e c.requires refl in
     let fit = s.legal e there in
     let change = among_remove xs s.len i s.within c.requires s.distinct e refl in
-    let less = count_strike s.nodes s.labels e old new fit there change in
+    let less = count_strike s.sizes.nodes s.sizes.labels e old new fit there change in
     let was = s.counted in record {
-      sized = s.sized;
       within = simp length-set (omega arith);
-      legal = legal_changed s.nodes s.labels e false old new fit change s.legal;
+      legal = legal_changed s.sizes.nodes s.sizes.labels e false old new fit change s.legal;
       distinct = distinct_remove xs s.len i s.within c.requires s.distinct;
       counted = omega (arith, less, was);
     }

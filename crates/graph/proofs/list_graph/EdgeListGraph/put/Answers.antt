@@ -2,6 +2,7 @@ use Rattle.std.proofs.Common.{ℕ, ◌<◌, ◌≤◌, List, length, set, sym, r
 use Rattle.std.proofs.lemmas.Bool.{leb-true, leb-false}
 use Rattle.meaning.specs.Graphs.{size}
 use Rattle.graph.specs.declared.edges.Edge.{Edge}
+use Rattle.graph.specs.declared.sizes.Sizes.{Sizes}
 use Rattle.graph.specs.Edges.{among}
 use Rattle.graph.specs.Lists.{graph_of_list}
 use Rattle.graph.proofs.Among.{among_at, among_append}
@@ -28,6 +29,7 @@ returns c =
     let s = c.args.self.now in
     let t = c.append.new.self in
     let e = c.args.e in
+    let sizes = c.append.ensures.sizes in
     let fine = c.in_ok-check_edge.ensures in
     let room : size (graph_of_list s) < length s.slots.now = omega (arith, leb-false _ _ (sym c.if-is_full.ensures), s.counted) in
     record {
@@ -35,8 +37,8 @@ returns c =
         put_taken_new (graph_of_list s) e fine.0 room,
         c.in_default.ensures,
         record {
-          nodes = c.append.ensures.nodes;
-          labels = c.append.ensures.labels;
+          nodes = ap (λ (z : Sizes 1024). z.nodes) sizes;
+          labels = ap (λ (z : Sizes 1024). z.labels) sizes;
           capacity = ap length c.append.ensures.slots ∙ simp length-set;
           edges = λ u a v.
               ap (λ (ys : List Edge). among ys t.len u a v) c.append.ensures.slots

@@ -1,5 +1,6 @@
 use Rattle.std.proofs.Common.{ℕ, ◌-◌, List, length, get_or, set, ap, ◌∙◌, length-set}
 use Rattle.graph.specs.declared.edges.Edge.{Edge}
+use Rattle.graph.specs.declared.sizes.Sizes.{Sizes}
 use Rattle.graph.specs.Edges.{among, blank}
 use Rattle.graph.proofs.Among.{among_at, among_remove}
 use Rattle.graph.proofs.list_graph.EdgeListGraph.strike.Goals as goal
@@ -9,6 +10,7 @@ returns-in-Some c =
     let s = c.args.self.now in
     let t = c.remove.new.self in
     let e = c.args.e in
+    let sizes = c.remove.ensures.sizes in
     let h = c.in-Some.ensures in
     let i = c.in-Some.i in
     record {
@@ -16,8 +18,8 @@ returns-in-Some c =
         c.in_ok-check_edge.ensures.0,
         among_at s.slots.now s.len i e h.0 h.1,
         record {
-          nodes = c.remove.ensures.nodes;
-          labels = c.remove.ensures.labels;
+          nodes = ap (λ (z : Sizes 1024). z.nodes) sizes;
+          labels = ap (λ (z : Sizes 1024). z.labels) sizes;
           capacity = ap length c.remove.ensures.slots ∙ simp length-set;
           edges = λ u a v.
               ap (λ (ys : List Edge). among ys t.len u a v) c.remove.ensures.slots

@@ -8,7 +8,6 @@ use Rattle.graph.proofs.table.SmallTable.new.Goals as goal
 pub invariant_of-result : goal.invariant_of-result
 invariant_of-result c =
     let s = c.args.sizes in record {
-      sized = s.sized;
       wide = length-replicate {A = ℕ} 1664 0;
       counted = count_none s.nodes s.labels (in_table s.nodes s.labels (replicate 1664 0)) (table_none s.nodes s.labels);
     }

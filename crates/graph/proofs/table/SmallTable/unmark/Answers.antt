@@ -8,22 +8,21 @@ pub overflow_sub-self : goal.overflow_sub-self
 overflow_sub-self c =
     let s = c.args.self.now in
     let e = c.args.e in
-    let fit = legal_in_table s.nodes s.labels s.words e c.requires.old in
+    let fit = legal_in_table s.sizes.nodes s.sizes.labels s.words e c.requires.old in
     let ws = set s.words (e.label * 64 + e.from) c.cleared.result in
-    let change = table_changed s.nodes s.labels s.words e false c.cleared.result s.sized.1 s.sized.3 s.wide fit c.cleared.ensures in
-    omega (arith, s.counted, count_strike s.nodes s.labels e (in_table s.nodes s.labels s.words) (in_table s.nodes s.labels ws) fit c.requires.old change)
+    let change = table_changed s.sizes.nodes s.sizes.labels s.words e false c.cleared.result s.sizes.sized.1 s.sizes.sized.3 s.wide fit c.cleared.ensures in
+    omega (arith, s.counted, count_strike s.sizes.nodes s.sizes.labels e (in_table s.sizes.nodes s.sizes.labels s.words) (in_table s.sizes.nodes s.sizes.labels ws) fit c.requires.old change)
 
 pub invariant_of-self : goal.invariant_of-self
 invariant_of-self c =
     let s = c.args.self.now in
     let e = c.args.e in
-    let fit = legal_in_table s.nodes s.labels s.words e c.requires.old in
+    let fit = legal_in_table s.sizes.nodes s.sizes.labels s.words e c.requires.old in
     let ws = set s.words (e.label * 64 + e.from) c.cleared.result in
-    let change = table_changed s.nodes s.labels s.words e false c.cleared.result s.sized.1 s.sized.3 s.wide fit c.cleared.ensures in
-    let less = count_strike s.nodes s.labels e (in_table s.nodes s.labels s.words) (in_table s.nodes s.labels ws) fit c.requires.old change in
+    let change = table_changed s.sizes.nodes s.sizes.labels s.words e false c.cleared.result s.sizes.sized.1 s.sizes.sized.3 s.wide fit c.cleared.ensures in
+    let less = count_strike s.sizes.nodes s.sizes.labels e (in_table s.sizes.nodes s.sizes.labels s.words) (in_table s.sizes.nodes s.sizes.labels ws) fit c.requires.old change in
     let was = s.counted in
     record {
-      sized = s.sized;
       wide = simp length-set s.wide;
       counted = omega (arith, less, was);
     }
@@ -32,8 +31,7 @@ pub returns : goal.returns
 returns c =
     let s = c.args.self.now in
     record {
-      words = table_changed s.nodes s.labels s.words c.args.e false c.cleared.result s.sized.1 s.sized.3 s.wide
-          (legal_in_table s.nodes s.labels s.words c.args.e c.requires.old) c.cleared.ensures;
-      nodes = refl;
-      labels = refl;
+      words = table_changed s.sizes.nodes s.sizes.labels s.words c.args.e false c.cleared.result s.sizes.sized.1 s.sizes.sized.3 s.wide
+          (legal_in_table s.sizes.nodes s.sizes.labels s.words c.args.e c.requires.old) c.cleared.ensures;
+      sizes = refl;
     }

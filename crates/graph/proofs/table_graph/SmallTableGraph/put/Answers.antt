@@ -1,4 +1,5 @@
 use Rattle.std.proofs.Common.{◌≡◌, ℕ, ◌*◌, sym, ap, ◌∙◌, arith}
+use Rattle.graph.specs.declared.sizes.Sizes.{Sizes}
 use Rattle.graph.specs.Rows.{in_table}
 use Rattle.graph.specs.Tables.{graph_of_table}
 use Rattle.graph.proofs.InTable.{room_left}
@@ -10,16 +11,17 @@ returns c =
     let s = c.args.self.now in
     let t = c.mark.new.self in
     let e = c.args.e in
+    let sizes = c.mark.ensures.sizes in
     let fine = c.in_ok-check_edge.ensures in
     let lacks = sym c.if-test.ensures in
     record {
       puts = (
-        put_taken_new (graph_of_table s) e fine.0 (room_left s.nodes s.labels (in_table s.nodes s.labels s.words) e fine.1 lacks),
+        put_taken_new (graph_of_table s) e fine.0 (room_left s.sizes.nodes s.sizes.labels (in_table s.sizes.nodes s.sizes.labels s.words) e fine.1 lacks),
         lacks,
         record {
-          nodes = c.mark.ensures.nodes;
-          labels = c.mark.ensures.labels;
-          capacity = ap (λ (k : ℕ). k * k * t.labels) c.mark.ensures.nodes ∙ ap (λ (k : ℕ). s.nodes * s.nodes * k) c.mark.ensures.labels;
+          nodes = ap (λ (z : Sizes 64). z.nodes) sizes;
+          labels = ap (λ (z : Sizes 64). z.labels) sizes;
+          capacity = ap (λ (z : Sizes 64). z.nodes * z.nodes * z.labels) sizes;
           edges = c.mark.ensures.words;
         },
       );

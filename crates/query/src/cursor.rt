@@ -1,0 +1,9 @@
+ghost use Rattle.std.specs.Prelude.{◌≤◌, length};
+
+// A text, and how far it was read.
+#[derive(Drop)]
+pub struct Reader<'a> {
+    pub(crate) text: &'a [u8],
+    pub(crate) at: usize,
+    ghost within: { at ≤ length text.now },
+}

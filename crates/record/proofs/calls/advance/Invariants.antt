@@ -1,5 +1,0 @@
-use Rattle.std.proofs.Common.{◌≡◌, ℕ, ◌<◌, ◌≤◌, get_or}
-use Rattle.record.proofs.calls.advance.Given as goal
-
-abbrev pub invariant-loop-i : goal.invariant-loop-i
-invariant-loop-i l = ((k : ℕ) → k < l.i → get_or l.answer k 0 ≡ get_or l.tuple k 0) × ((k : ℕ) → l.i ≤ k → get_or l.answer k 0 ≡ get_or l.initial.answer k 0)

@@ -1,7 +1,0 @@
-use Rattle.std.proofs.Common.{ℕ, ◌<◌}
-use Rattle.meaning.specs.Shapes.{Has}
-use Rattle.shapes.specs.Checks.{of}
-use Rattle.shapes.proofs.checks.used.Given as goal
-
-abbrev pub invariant-loop-a : goal.invariant-loop-a
-invariant-loop-a l = (k : ℕ) → k < l.a-index → Has (of l.atoms) k l.x → ⊥
