@@ -7,7 +7,7 @@ use super::symbols::Symbol;
 use bits::{has, marked};
 
 // The positions of an expression while it is read: what each reads, and which may follow it.
-// Positions are numbered from 1 on, and those past 63 are only counted.
+// Positions are numbered from 1 on, and those past 63 are only counted. Arrays, since the engine has no heap; two, since the start state has no symbol.
 #[derive(Drop)]
 pub struct Builder {
     pub symbols: [Symbol; 64],
@@ -19,6 +19,7 @@ pub struct Builder {
 // A part of an expression: whether the empty word is a word of it, and the positions at which its words begin and end.
 #[derive(Clone, Copy)]
 pub struct Part {
+    // A fact about the words; the two sets say something with it and without it.
     pub nullable: bool,
     pub first: u64,
     pub last: u64,
@@ -61,7 +62,7 @@ impl Builder {
         }
     }
 
-    // The part for `a` and then `b`.
+    // The part for `a` and then `b`. What stays as it was is said in each contract: no ghost field can compare two states.
     pub fn join(&mut self, a: Part, b: Part) -> Part
         ensures count { self.new.count ≡ self.old.count }
         ensures symbols { self.new.symbols ≡ self.old.symbols }

@@ -41,11 +41,7 @@ fn run(rt: HostRuntime, bytes: &[u8], automaton: &Automaton, times: Option<u32>)
     let Ok(sizes) = ListSizes::new(nodes, labels) else {
         return println!(rt; "the sizes are out of range");
     };
-    let mut memory = vec![in heap; Edge {
-        from: 0,
-        label: 0,
-        to: 0
-    }; 4096]?;
+    let mut memory = vec![in heap; Edge::default(); 4096]?;
     let mut list = EdgeList::new(sizes, memory.as_mut_slice());
     load(&mut reader, &mut list);
     report(rt, "edge list", list, automaton, times)?;

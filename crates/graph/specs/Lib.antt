@@ -8,3 +8,4 @@ pub mod Lists
 pub mod Rows
 pub mod Tables
 pub mod Successors
+pub mod Lines

@@ -7,6 +7,7 @@ use super::edges::Edge;
 use super::sizes::ListSizes;
 
 // A graph that keeps its edges in the first places of the caller's memory, and has room for as many as that memory has places.
+// A slice with a length beside it, since the memory is the caller's.
 #[derive(Drop)]
 pub struct EdgeList<'a> {
     pub(crate) slots: &'a mut [Edge],

@@ -38,6 +38,8 @@ fn semijoin(words: &mut [u64], atoms: &[Ends], rows: Rows, into: usize, from: us
     clear(words, mask, rows.width);
 }
 
+// The four requirements stand at each of the passes: no ghost field can hold `ordered`, which names a variable and so is no proposition.
+
 // From the last rank to the first, each atom's parent keeps what it shares with the atom.
 fn climb(words: &mut [u64], atoms: &[Ends], order: &Order, rows: Rows)
     requires some { (0 < length atoms.now) × (length atoms.now ≤ 8) }

@@ -24,6 +24,8 @@ impl Side {
     }
 }
 
+// Rows and masks are given by their places and not as slices, since both lie in the workspace that the caller lends.
+
 // Adds node `u` to the set at `mask` if the row at `row` has a bit.
 fn note_row(words: &mut [u64], row: usize, w: usize, mask: usize, u: usize)
     requires apart { row + w ≤ mask }

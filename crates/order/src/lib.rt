@@ -10,7 +10,7 @@ ghost use Rattle.order.specs.Steps.{Hangs, Open, seen_at};
 use shapes::Ends;
 
 // How an atom is reached.
-#[derive(Clone, Copy)]
+#[derive(Clone, Copy, Default)]
 pub struct Step {
     pub atom: usize,
     // The rank of the parent, the variable that is shared with it, and the other one.
@@ -19,7 +19,7 @@ pub struct Step {
     pub fresh: u8,
 }
 
-// The order in which atoms are reached.
+// The order in which atoms are reached. Arrays, since the engine has no heap.
 #[derive(Clone, Copy)]
 pub struct Order {
     // By rank.
@@ -79,12 +79,7 @@ pub fn reach(atoms: &[Ends], start: u8) -> Order
     ensures ordered { Ordered (of atoms.now) (length atoms.now) start (ranks result) }
     ensures chosen { Chosen (of atoms.now) (length atoms.now) start (ranks result) }
 {
-    let mut steps = [Step {
-        atom: 0,
-        parent: 0,
-        shared: 0,
-        fresh: 0,
-    }; 8];
+    let mut steps = [Step::default(); 8];
     let mut rank = [None; 8];
     let mut seen = [None; 256];
     seen[start as usize] = Some(0);

@@ -34,13 +34,13 @@ pub enum Refusal {
 impl From<query::Fault> for Refusal {
     ghost from_gives = { λ f r. r ≡ Unread f };
 
-    fn from(fault: query::Fault) -> Refusal {
-        Refusal::Unread(fault)
+    fn from(f: query::Fault) -> Refusal {
+        Refusal::Unread(f)
     }
 }
 
 impl Refusal {
-    // The refusal number, 4 to 11.
+    // The refusal number, 4 to 11. A method, since the numbers are published ones and `u8::from` would not say what the number is.
     pub fn number(self) -> u8
         ensures { result ≡ refusal_number self }
     {
@@ -101,7 +101,7 @@ pub fn ends(atoms: &[Atom; 8]) -> [Ends; 8]
     array::from_fn(|i| end(&atoms[i]))
 }
 
-// The two variables of an atom.
+// The two variables of an atom. No `From`: neither type is of this crate.
 fn end(atom: &Atom) -> Ends
     ensures { result ≡ pair atom.now }
 {

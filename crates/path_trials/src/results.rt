@@ -10,6 +10,7 @@ use walk::fill_table;
 #[derive(Clone, Copy)]
 struct Expected<'a> {
     pairs: &'a [(u16, u16)],
+    // A fact about the result; the pairs say something with it and without it.
     loops: bool,
 }
 
@@ -103,11 +104,7 @@ fn on_both(
     let Ok(sizes) = ListSizes::new(nodes, labels) else {
         return Err(Fail::new("sizes"));
     };
-    let mut memory = [Edge {
-        from: 0,
-        label: 0,
-        to: 0,
-    }; 16];
+    let mut memory = [Edge::default(); 16];
     let mut list = EdgeList::new(sizes, &mut memory);
     put_all(&mut list, edges);
     check_rows(rt, &list, rows)?;

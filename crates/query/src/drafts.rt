@@ -15,14 +15,14 @@ pub struct Atom {
     pub automaton: Automaton,
 }
 
-// The variables of a head: all are counted, and the first 26 are kept.
+// The variables of a head: all are counted, and the first 26 are kept. An array, since the engine has no heap.
 #[derive(Clone, Copy)]
 pub struct Head {
     pub names: [u8; 26],
     pub count: usize,
 }
 
-// A query as it is read: all atoms are counted, and the first eight are kept.
+// A query as it is read: all atoms are counted, and the first eight are kept. An array, since the engine has no heap.
 #[derive(Clone, Copy)]
 pub struct Draft {
     pub(crate) head: Head,
@@ -32,7 +32,7 @@ pub struct Draft {
     pub(crate) over: Option<usize>,
 }
 
-// A query within the limits.
+// A query within the limits. An array, since the engine has no heap.
 #[derive(Clone, Copy)]
 pub struct Query {
     pub head: Head,
@@ -50,7 +50,7 @@ pub enum Fault {
 }
 
 impl Fault {
-    // The refusal number.
+    // The refusal number. A method, since the numbers are published ones and `u8::from` would not say what the number is.
     pub fn number(self) -> u8
         ensures { result ≡ fault_number self }
     {

@@ -27,7 +27,8 @@ impl Reader<'_> {
         }
     }
 
-    // An alternative: sequences joined by |.
+    // An alternative: sequences joined by |. The builder is no part of the reader, since each expression begins a new one; so what each of the
+    // functions asks of the two stays in its contract.
     #[cycle(alternative_sequence_step_unit)]
     pub(crate) fn alternative(&mut self, out: &mut Builder) -> Result<Part, usize>
         requires { out.old.count ≤ self.old.at + 1 }
@@ -41,7 +42,7 @@ impl Reader<'_> {
         Ok(part)
     }
 
-    // A sequence: steps joined by /.
+    // A sequence: steps joined by /. Not one function with `alternative`: that would call itself through the closure that it is handed.
     #[cycle(alternative_sequence_step_unit)]
     fn sequence(&mut self, out: &mut Builder) -> Result<Part, usize>
         requires { out.old.count ≤ self.old.at + 1 }

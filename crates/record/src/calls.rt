@@ -70,6 +70,7 @@ fn lowest_fitting(query: &Query, words: &[u64]) -> Option<[NodeId; 26]>
 }
 
 // Writes the lowest tuple that fits the workspace above the last one, and notes it; or answers false, and writes nothing.
+// It answers a bool, since the answer itself is the memory that the caller lends.
 fn advance(query: &mut Query, words: &[u64], answer: &mut [NodeId]) -> Result<bool, Fault>
     ensures { Nexts query.old words.now answer.old result query.new answer.new }
 {
@@ -136,7 +137,7 @@ impl Opened {
 }
 
 impl Listing {
-    // Closes a listing: the record then holds what a new one holds.
+    // Closes a listing: the record then holds what a new one holds. Not one function with the other: each state can be let go by its own pattern alone.
     pub(crate) fn close(self, query: &mut Query) -> Blank
         ensures { Newly new_text query.new }
     {

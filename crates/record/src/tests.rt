@@ -56,11 +56,7 @@ fn listed(
     let Ok(sizes) = ListSizes::new(5, 3) else {
         return Err(Fail::new("sizes"));
     };
-    let mut memory = [Edge {
-        from: 0,
-        label: 0,
-        to: 0,
-    }; 8];
+    let mut memory = [Edge::default(); 8];
     let mut list = EdgeList::new(sizes, &mut memory);
     put_all(
         &mut list,

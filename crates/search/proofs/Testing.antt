@@ -1,6 +1,9 @@
 -- What the tests of the workspace answer, way by way.
-use Rattle.std.proofs.Common.{◌≡◌, ℕ, ◌+◌, ◌*◌, ◌<◌, ◌≤◌, Bool, true, false, cond, ltb, List, sym, refl, ap, ◌∙◌, subst, arith}
+use Rattle.std.proofs.Common.{◌≡◌, ℕ, ◌+◌, ◌*◌, ◌<◌, ◌≤◌, Bool, true, false, cond, ltb, List, length, sym, refl, ap, ◌∙◌, subst, arith}
 use Rattle.std.proofs.lemmas.Bool.{lt-ltb, le-ltb, and_left, and_right, both_ways}
+use Rattle.std.proofs.lemmas.List.FromFn.{length-range_with_len, get_or-range_with_len}
+use Rattle.std.specs.List.{HoldsAt, AllWithin, range_with_len}
+use Rattle.std.specs.Bool.{MatchBool, Decides}
 use Rattle.bits.specs.Rows.{row_bit}
 use Rattle.meaning.specs.Assignments.{Relations}
 use Rattle.meaning.specs.Tuples.{node}
@@ -41,3 +44,19 @@ goes_prefix p t k xs ys same g = record {
   pairs = λ c ca a b. ap (λ z. t c z (node xs (p.second c))) (same (p.first c) a) ∙ ap (λ z. t c (node ys (p.first c)) z) (same (p.second c) b) ∙ g.pairs c ca a b;
   stands = λ e. (let F : ℕ → Type 0 = λ z. Stands t p.root p.side z in subst F (sym (same 0 (omega arith))) (g.stands e));
 }
+
+-- what `any` over the numbers below n says of them
+pub any_below : (P Q : ℕ → Type 0) (n : ℕ) (r : Bool)
+    → MatchBool r ((k : ℕ) × (k < length (range_with_len 0 n)) × HoldsAt P (range_with_len 0 n) k) (AllWithin Q (range_with_len 0 n) 0 (length (range_with_len 0 n)))
+    → MatchBool r ((y : ℕ) × (y < n) × P y) ((y : ℕ) → y < n → Q y)
+any_below P Q n true h =
+    let low = subst (λ z. h.0 < z) (length-range_with_len 0 n) h.1 in
+    (h.0, low, subst P (get_or-range_with_len 0 n h.0 0 low ∙ omega arith) (h.2 0))
+any_below P Q n false h = λ y low. subst Q (get_or-range_with_len 0 n y 0 low ∙ omega arith) (h y 0 (omega arith) (subst (λ z. y < z) (sym (length-range_with_len 0 n)) low))
+
+-- the test of all pairs of x decides whether x stands on the side
+pub stands_tested : (s : List ℕ) (m n w c : ℕ) (first : Bool) (x : ℕ) (r : Bool)
+    → MatchBool r ((y : ℕ) × (y < n) × (tables s m n w c (cond first x y) (cond first y x) ≡ true)) ((y : ℕ) → y < n → tables s m n w c (cond first x y) (cond first y x) ≡ false)
+    → Decides r (Stands (tables s m n w) c first x)
+stands_tested s m n w c first x true h = ((λ _. stands_some (tables s m n w) c first x h.0 h.2), λ _. refl)
+stands_tested s m n w c first x false h = ((λ e. absurd (both_ways false refl e)), λ o. absurd (stands_none s m n w c first x h o))

@@ -9,7 +9,7 @@ use joins::Side;
 use meaning::NodeId;
 
 impl Tables<'_> {
-    // Whether atom c keeps the pair (u, v).
+    // Whether atom c keeps the pair (u, v). That there is such an atom is asked of each call: a number of its own type would be unpacked in each body.
     fn has(&self, c: usize, u: usize, v: usize) -> bool
         requires { c < self.now.places.now.atoms }
         ensures { result ≡ relations self.now c u v }
@@ -41,12 +41,7 @@ impl Tables<'_> {
         requires { c < self.now.places.now.atoms }
         ensures { Decides result (Stands (relations self.now) c (is_first side) x) }
     {
-        for y in 0..self.rows.count {
-            if self.has_on(c, side, x, y) {
-                return true;
-            }
-        }
-        false
+        (0..self.rows.count).any(|y| self.has_on(c, side, x, y))
     }
 
     // Whether atom c has its pair, if both its variables stand at the places 0 to k.

@@ -17,7 +17,7 @@ pub struct Root {
     pub side: Side,
 }
 
-// Where the variables of a query's atoms stand in its head.
+// Where the variables of a query's atoms stand in its head. An array, since the engine has no heap.
 #[derive(Clone, Copy)]
 pub struct Places {
     // The number of free variables.

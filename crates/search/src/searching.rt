@@ -7,6 +7,7 @@ use super::tables::Tables;
 use meaning::NodeId;
 
 // The lowest tuple of nodes that fits the tables, above `last` if there is one.
+// The place and its node are counted by hand, since the search goes back over places and over nodes.
 pub fn lowest(tables: &Tables, last: Option<[NodeId; 26]>) -> Option<[NodeId; 26]>
     requires head { (0 < tables.now.places.now.free) × (tables.now.places.now.free ≤ 26) }
     requires nodes { tables.now.rows.count ≤ 1024 }

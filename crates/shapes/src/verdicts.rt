@@ -19,7 +19,7 @@ pub enum Fault {
 }
 
 impl Fault {
-    // The refusal number.
+    // The refusal number. A method, since the numbers are published ones and `u8::from` would not say what the number is.
     pub fn number(self) -> u8
         ensures { result ≡ number self }
     {

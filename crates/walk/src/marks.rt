@@ -10,6 +10,7 @@ use meaning::{LabelId, NodeId};
 
 // Adds states to those seen at a node, and the new ones among them to those waiting there.
 // The scratch words z are a word of states seen for each of n nodes, and then a word of states waiting for each.
+// No struct has them and their length: over a slice that is lent on, each contract would say instead that it is the same slice still.
 pub(crate) fn mark(z: &mut [u64], n: usize, node: usize, states: u64)
     requires below { node < n }
     requires scratch { length z.old ≡ n + n }

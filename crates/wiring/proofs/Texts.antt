@@ -1,7 +1,9 @@
 -- Texts made line by line.
-use Rattle.std.proofs.Common.{◌≡◌, ℕ, ◌+◌, ◌<◌, ◌≤◌, List, [], ◌∷◌, ◌++◌, map, length, get_or, take, sym, refl, ap, ◌∙◌, append_assoc, append-nil, take_all}
+use Rattle.std.proofs.Common.{◌≡◌, ℕ, ◌+◌, ◌<◌, ◌≤◌, List, [], ◌∷◌, ◌++◌, map, length, get_or, take, Option, Some, None, IsSome, sym, refl, ap, ◌∙◌, append_assoc, append-nil, take_all}
 use Rattle.std.proofs.lemmas.List.{take_more, map_push}
-use Rattle.wiring.specs.Lines.{text}
+use Rattle.std.specs.Fmt.{AppendsText, ◌++?◌}
+use Rattle.std.proofs.lemmas.Bool.{false≢true}
+use Rattle.wiring.specs.Lines.{printed, text}
 
 pub text_push : (ls : List (List ℕ)) (l : List ℕ) → text (ls ++ l ∷ []) ≡ text ls ++ text (l ∷ [])
 text_push [] l = refl
@@ -21,3 +23,8 @@ module _ {X : Type 0} (f : X → List ℕ) (xs : List X) (start : List ℕ) wher
 
   pub text_all : (i : ℕ) (b : List ℕ) → length xs ≤ i → b ≡ start ++ text (map f (take i xs)) → b ≡ start ++ text (map f xs)
   text_all i b l come = come ∙ ap (λ (t : List X). start ++ text (map f t)) (take_all i xs l)
+
+-- one line more, of an item whose text is known
+pub line_more : (o : Option (List ℕ)) (b b' : List ℕ) → IsSome o → AppendsText b b' (o ++? Some (10 ∷ [])) → b' ≡ b ++ text (printed o ∷ [])
+line_more None b b' known a = absurd (false≢true known)
+line_more (Some t) b b' known a = a

@@ -1,11 +1,11 @@
 ghost use Rattle.std.specs.Prelude.{◌≡◌};
-ghost use Rattle.wiring.specs.declared.faults.Fault.TheVariants.{BadSizes, TurnedAway};
+ghost use Rattle.wiring.specs.declared.faults.Fault.TheVariants.{BadQuery, BadSizes, TurnedAway};
 
 use graph::{Fault as GraphFault, SizeFault};
 use parse::Refusal as QueryRefusal;
 
 // Why a record of a wiring file is refused.
-#[derive(Clone, Copy)]
+#[derive(Clone, Copy, Debug, PartialEq, Eq)]
 pub enum Fault {
     // The record runs past the end of the file.
     Cut,
@@ -37,8 +37,16 @@ impl From<GraphFault> for Fault {
     }
 }
 
+impl From<QueryRefusal> for Fault {
+    ghost from_gives = { λ f r. r ≡ BadQuery f };
+
+    fn from(f: QueryRefusal) -> Fault {
+        Fault::BadQuery(f)
+    }
+}
+
 // A record that is refused, by its offset in the file, and why.
-#[derive(Clone, Copy)]
+#[derive(Clone, Copy, Debug, PartialEq, Eq)]
 pub struct Refusal {
     pub fault: Fault,
     pub at: usize,

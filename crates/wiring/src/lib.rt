@@ -13,7 +13,7 @@ mod reports;
 mod surveys;
 
 pub use faults::{Fault, Refusal};
-pub use lines::{count_line, refused_line, wire_line};
+pub use lines::Count;
 pub use listing::wires;
 pub use phases::Phase;
 pub use reader::Reader;

@@ -1,14 +1,12 @@
-ghost use Rattle.std.specs.Prelude.{◌≡◌, IfOk, string_bytes};
-ghost use Rattle.wiring.specs.Lines.{refused_text, wire_text, count_text, letter};
+ghost use Rattle.std.specs.Prelude.{◌≡◌, Some};
+ghost use Rattle.wiring.specs.Lines.{refused_text, count_text};
 ghost use Rattle.wiring.specs.Numbers.{number};
 
 use super::faults::{Fault, Refusal};
-use graph::Edge;
-use meaning::LabelId;
-use std::alloc::{AllocError, Global};
+use std::fmt;
 
 impl Fault {
-    // The refusal's number.
+    // The refusal's number. A method, since the numbers are published ones and `u8::from` would not say what the number is.
     pub fn code(self) -> u8
         ensures { result ≡ number self }
     {
@@ -22,39 +20,25 @@ impl Fault {
     }
 }
 
-// The line that tells of a refused record.
-pub fn refused_line(heap: Global, refusal: Refusal) -> Result<String, AllocError>
-    ensures { IfOk result (λ s. string_bytes s ≡ refused_text refusal) }
-{
-    let number = refusal.fault.code();
-    let at = refusal.at;
-    format!(in heap; "refused {number} at {at}")
-}
+impl fmt::Display for Refusal {
+    ghost output = { λ r. Some (refused_text r) };
 
-// The line that tells of an edge.
-pub fn wire_line(heap: Global, e: Edge) -> Result<String, AllocError>
-    ensures { IfOk result (λ s. string_bytes s ≡ wire_text e) }
-{
-    let from = e.from;
-    let label = letter_of(e.label);
-    let to = e.to;
-    format!(in heap; "{from} {label} {to}")
-}
-
-// The letter of a label.
-fn letter_of(label: LabelId) -> char
-    ensures { result ≡ letter label }
-{
-    if label < 26 {
-        (b'a' + label) as char
-    } else {
-        '?'
+    fn fmt<W: fmt::Write>(&self, f: &mut fmt::Formatter<W>) -> fmt::Result {
+        let number = self.fault.code();
+        let at = self.at;
+        write!(f, "refused {number} at {at}")
     }
 }
 
-// The line that tells how many edges there are.
-pub fn count_line(heap: Global, n: usize) -> Result<String, AllocError>
-    ensures { IfOk result (λ s. string_bytes s ≡ count_text n) }
-{
-    format!(in heap; "{n} wires")
+// How many wires there are.
+#[derive(Clone, Copy)]
+pub struct Count(pub usize);
+
+impl fmt::Display for Count {
+    ghost output = { λ n. Some (count_text n.0) };
+
+    fn fmt<W: fmt::Write>(&self, f: &mut fmt::Formatter<W>) -> fmt::Result {
+        let n = self.0;
+        write!(f, "{n} wires")
+    }
 }

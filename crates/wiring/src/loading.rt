@@ -1,6 +1,7 @@
-ghost use Rattle.std.specs.Prelude.{◌≡◌, ℕ, ◌<◌, true, IfOk, Some, MatchBool, OnOk};
+ghost use Rattle.std.specs.Prelude.{◌≡◌, ℕ, ◌<◌, true, List, [], ◌∷◌, ◌++◌, IfOk, Some, Ok, Err, MatchBool, OnOk};
 ghost use Rattle.wiring.specs.Order.{admits};
-ghost use Rattle.wiring.specs.Reading.{Obeys, Reached, Read};
+ghost use Rattle.wiring.specs.Reading.{Obeys, Reached, Read, refusal};
+ghost use Rattle.wiring.specs.declared.faults.Refusal.{Refusal as Refused};
 ghost use Rattle.wiring.specs.declared.phases.Phase.TheVariants.{Loading};
 
 use super::faults::{Fault, Refusal};
@@ -26,6 +27,7 @@ pub(crate) fn load<G: Graph>(
 }
 
 // Makes the change of the record to come, and answers whether the reading goes on.
+// The phase stands in the contracts, since the reader is the same before the sizes record and after it.
 fn step<G: Graph>(
     reader: &mut Reader,
     graph: &mut G,
@@ -51,42 +53,30 @@ fn step<G: Graph>(
     };
     match next {
         Some(record) => {
-            obey(record, at, graph, refusals)?;
+            if let Err(fault) = obey(record, graph) {
+                refusals.push(Refusal { fault, at })?;
+            }
             Ok(true)
         }
         None => Ok(false),
     }
 }
 
-// Makes the change that the record at offset `at` asks for, or checks its query, and notes it where it is turned away.
-fn obey<G: Graph>(
-    record: Record,
-    at: usize,
-    graph: &mut G,
-    refusals: &mut Vec<Refusal>,
-) -> Result<(), AllocError>
+// Makes the change that a record asks for, or checks its query.
+fn obey<G: Graph>(record: Record, graph: &mut G) -> Result<(), Fault>
     requires { admits Loading «record» ≡ true }
-    ensures { OnOk result (Obeys
-        (G.Graph.graph graph.old) «record».entry at refusals.old.items
-        (G.Graph.graph graph.new) refusals.new.items) }
+    ensures { (at : ℕ) (rs : List Refused) → elim result [
+      | Ok _ ↦ Obeys (G.Graph.graph graph.old) «record».entry at rs (G.Graph.graph graph.new) rs
+      | Err f ↦ Obeys (G.Graph.graph graph.old) «record».entry at rs (G.Graph.graph graph.new) (rs ++ refusal f at ∷ [])
+    ] }
 {
     match record {
         Record::Change(change) => {
-            if let Err(fault) = apply(graph, change) {
-                refusals.push(Refusal {
-                    fault: Fault::TurnedAway(fault),
-                    at,
-                })?;
-            }
+            apply(graph, change)?;
             Ok(())
         }
         Record::Query(text) => {
-            if let Err(refusal) = parse(text) {
-                refusals.push(Refusal {
-                    fault: Fault::BadQuery(refusal),
-                    at,
-                })?;
-            }
+            parse(text)?;
             Ok(())
         }
         Record::Sizes(_, _) => unreachable(),

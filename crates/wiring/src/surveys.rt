@@ -66,11 +66,7 @@ fn load_list(
         → Reached m 4096 reader.old.bytes.now reader.old.at (Some g) refusals.old.items)
         → (g : Meaning) × Read m 4096 reader.old.bytes.now (Some g) refusals.new.items × Lists (Wire g) v.items) }
 {
-    let mut memory = vec![in heap; Edge {
-        from: 0,
-        label: 0,
-        to: 0
-    }; 4096]?;
+    let mut memory = vec![in heap; Edge::default(); 4096]?;
     let mut list = EdgeList::new(sizes, memory.as_mut_slice());
     load(reader, &mut list, refusals)?;
     wires(&list, heap)

@@ -1,8 +1,9 @@
-use Rattle.std.proofs.Common.{ℕ, [], ◌∷◌, ◌++◌, vec_items, refl, ap, ◌∙◌, subst}
+use Rattle.std.proofs.Common.{ℕ, List, [], ◌∷◌, ◌++◌, vec_items, refl, sym, ap, ◌∙◌, subst}
 use Rattle.std.proofs.lemmas.Slice.{pushed}
 use Rattle.std.proofs.lemmas.Bool.{false≢true}
+use Rattle.wiring.specs.declared.faults.Refusal.{Refusal}
 use Rattle.wiring.specs.Reading.{Obeys, refusal}
-use Rattle.wiring.proofs.Steps.{step_moves, step_loading, step_obeyed, step_stopped, step_ended, ended_loading}
+use Rattle.wiring.proofs.Steps.{step_obeyed, step_stopped, step_ended, ended_loading}
 use Rattle.wiring.proofs.loading.step.Goals as goal
 
 pub returns-in-Err : goal.returns-in-Err
@@ -22,26 +23,28 @@ returns-in-Err g c =
       moves = λ e. absurd (false≢true e);
     }
 
-pub returns-in_ok-obey-in-Some : goal.returns-in_ok-obey-in-Some
-returns-in_ok-obey-in-Some g c =
+pub returns-in_ok-push-in-Some-clause-reads : goal.returns-in_ok-push-in-Some-clause-reads
+returns-in_ok-push-in-Some-clause-reads g c =
     let s = c.args.reader.now in
     let t = c.next.new.self in
-    let h = c.in-Ok.ensures in
     let m = g.G.Graph.graph in
     let r = c.in-Some.«record» in
     let rs = vec_items c.args.refusals.now in
-    let rs' = vec_items c.obey.new.refusals in
-    let n = c.in-Ok.next in
-    let is = c.in-Some.is in
-    record {
-      reads = λ l k come. step_obeyed s.bytes.now s.at t.at s.phase t.phase c.requires l k
-          (m c.args.graph.now) rs come (m c.obey.new.graph) rs' r n is h.reads
-          (subst (λ (o : ℕ). Obeys (m c.args.graph.now) r o rs (m c.obey.new.graph) rs') c.offset-at.ensures
-          c.in_ok-obey-in-Some.ensures);
-      bytes = h.bytes;
-      phase = step_loading s.bytes.now s.at t.at s.phase t.phase c.requires r n is h.reads;
-      moves = λ _. step_moves s.bytes.now s.at t.at s.phase t.phase c.requires r n is h.reads;
-    }
+    let f = c.in-Err-obey.fault in
+    let more = c.in_ok-push-in-Some.ensures.items ∙ ap (λ (o : ℕ). rs ++ refusal f o ∷ []) c.offset-at.ensures in
+    λ l k come. step_obeyed s.bytes.now s.at t.at s.phase t.phase c.requires l k
+    (m c.args.graph.now) rs come (m c.obey.new.graph) (vec_items c.push-in-Err-obey.new.self) r c.in-Ok.next c.in-Some.is c.in-Ok.ensures.reads
+    (subst (λ rs'. Obeys (m c.args.graph.now) r s.at rs (m c.obey.new.graph) rs') (sym {A = List Refusal} more) (c.in-Err-obey.ensures s.at rs))
+
+pub returns-in_default-clause-reads : goal.returns-in_default-clause-reads
+returns-in_default-clause-reads g c =
+    let s = c.args.reader.now in
+    let t = c.next.new.self in
+    let m = g.G.Graph.graph in
+    let rs = vec_items c.args.refusals.now in
+    λ l k come. step_obeyed s.bytes.now s.at t.at s.phase t.phase c.requires l k
+    (m c.args.graph.now) rs come (m c.obey.new.graph) rs c.in-Some.«record» c.in-Ok.next c.in-Some.is c.in-Ok.ensures.reads
+    (c.in_default.ensures s.at rs)
 
 pub returns-in-None : goal.returns-in-None
 returns-in-None g c =
