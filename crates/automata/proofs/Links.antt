@@ -1,14 +1,11 @@
 -- Sets of positions, and rows that gain a set.
 use Rattle.std.proofs.Common.{◌≡◌, ℕ, ◌+◌, ◌%◌, ◌<◌, Bool, true, false, cond, eqb, ◌⊎◌, ◌↔◌, List, length, get_or, set, sym, refl, ap, ◌∙◌, subst, inl, inr, mod-eq_of_lt, arith, get_or-set_other, get_or-set_same}
 use lib.Bits.{bit_or}
-use Rattle.std.proofs.lemmas.Bool.{cases_eq, or_cases, or_left, or_right, eqb-true, eq-eqb, both_ways}
+use Rattle.std.proofs.lemmas.Bool.{cases_eq}
 use Rattle.bits.specs.Bits.{bit, Has}
 use Rattle.bits.proofs.Laws.{bit_zero}
 use Rattle.bits.proofs.Sets.{has_only, has_or}
 use Rattle.automata.specs.Sets.{Linked}
-
-pub linked_none : (old : List ℕ) (last first : ℕ) → Linked old old 0 last first
-linked_none old last first x q = ((λ h. inl h), elim [ inl h ↦ h | inr h ↦ absurd (let k = h.0 in omega arith) ])
 
 pub linked_skip : (old now : List ℕ) (p last first : ℕ) → (Has last p → ⊥) → Linked old now p last first → Linked old now (p + 1) last first
 linked_skip old now p last first n l x q = (

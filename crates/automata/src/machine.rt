@@ -6,6 +6,7 @@ use super::builder::{Builder, Part};
 use super::symbols::Symbol;
 
 // A position automaton: state 0 is the start, and state p the position p, which is entered by its symbol.
+// Arrays, since the engine has no heap; two, since the start state has no symbol.
 #[derive(Clone, Copy)]
 pub struct Automaton {
     pub symbols: [Symbol; 64],

@@ -1,41 +1,15 @@
 -- Rows of bits.
-use Rattle.std.proofs.Common.{◌≡◌, ℕ, ◌+◌, ◌-◌, ◌*◌, ◌/◌, ◌%◌, ◌^◌, ◌<◌, ◌≤◌, Bool, true, false, cond, eqb, ◌≢◌, ◌⊎◌, List, length, get_or, set, take, drop, ◌++◌, sym, refl, ap, ◌∙◌, ⊎_elim, arith, get_or-set_other, get_or-set_same}
+use Rattle.std.proofs.Common.{◌≡◌, ℕ, ◌+◌, ◌-◌, ◌*◌, ◌/◌, ◌%◌, ◌^◌, ◌<◌, ◌≤◌, Bool, true, false, ◌≢◌, List, length, get_or, take, drop, ◌++◌, sym, refl, ap, ◌∙◌, ⊎_elim, arith}
 use lib.Bits.{bit_and, bit_or}
 use Rattle.std.proofs.lemmas.Grind.{common_steps}
-use Rattle.std.proofs.lemmas.Nat.{div-add-mod', div_below, div-mul-add, mod-mul-add}
-use Rattle.std.proofs.lemmas.Bool.{both_ways, cases_eq, cases_lt, eq-eqb, ne_eqb}
+use Rattle.std.proofs.lemmas.Nat.{div_below, div-mul-add, mod-mul-add}
+use Rattle.std.proofs.lemmas.Bool.{both_ways, cases_lt}
 use Rattle.std.specs.Bool.{MatchBool, Decides}
 use Rattle.std.specs.List.{AllWithin, HoldsAt}
 use Rattle.bits.specs.Bits.{bit}
-use Rattle.bits.specs.Rows.{row_bit, RowSet, Cleared, Narrowed, Widened, SomeBit}
+use Rattle.bits.specs.Rows.{row_bit, Narrowed, Widened, SomeBit}
 use Rattle.bits.proofs.Laws.{bit-and, bit-or, bit_zero}
 use Rattle.bits.proofs.Sets.{has_below, member}
-
--- a word is written in which one bit more is set
-pub row_set : (ws : List ℕ) (start i w : ℕ) → start + i / 64 < length ws
-    → ((j : ℕ) → bit w j ≡ cond (eqb (i % 64) j) true (bit (get_or ws (start + i / 64) 0) j)) → RowSet ws (set ws (start + i / 64) w) start i
-row_set ws start i w l marks = record {
-  row = λ j. ⊎_elim (here j) (λ n. ap (λ (z : ℕ). bit z (j % 64)) (other j n) ∙ sym (ap (λ (b : Bool). cond b true (row_bit ws start j)) (ne_eqb i j (λ e. n (ap (λ (z : ℕ). z / 64) (sym e)))))) (cases_eq (j / 64) (i / 64));
-  rest = λ k n. get_or-set_other ws (start + i / 64) k w 0 n;
-}
-  where
-    other : (j : ℕ) → (j / 64 ≡ i / 64 → ⊥) → get_or (set ws (start + i / 64) w) (start + j / 64) 0 ≡ get_or ws (start + j / 64) 0
-    other j n = let ne : start + j / 64 ≢ start + i / 64 = λ e. n (omega arith) in get_or-set_other ws (start + i / 64) (start + j / 64) w 0 ne
-
-    same_bit : (j : ℕ) → j / 64 ≡ i / 64 → eqb (i % 64) (j % 64) ≡ eqb i j
-    same_bit j e =
-        ⊎_elim (λ (q : i ≡ j). eq-eqb (i % 64) (j % 64) (ap (λ (z : ℕ). z % 64) q) ∙ sym (eq-eqb i j q))
-        (λ (n : i ≡ j → ⊥). ne_eqb (i % 64) (j % 64) (λ q. n (sym (div-add-mod' i 64) ∙ ap (λ (z : ℕ). z * 64 + i % 64) (sym e) ∙ ap (λ (z : ℕ). j / 64 * 64 + z) q ∙ div-add-mod' j 64)) ∙ sym (ne_eqb i j n))
-        (cases_eq i j)
-
-    here : (j : ℕ) → j / 64 ≡ i / 64 → row_bit (set ws (start + i / 64) w) start j ≡ cond (eqb i j) true (row_bit ws start j)
-    here j e =
-        let place : start + j / 64 ≡ start + i / 64 = ap (λ (z : ℕ). start + z) e in
-        ap (λ (z : ℕ). bit (get_or (set ws (start + i / 64) w) z 0) (j % 64)) place
-        ∙ ap (λ (z : ℕ). bit z (j % 64)) (get_or-set_same ws (start + i / 64) w 0 l)
-        ∙ marks (j % 64)
-        ∙ ap (λ (b : Bool). cond b true (bit (get_or ws (start + i / 64) 0) (j % 64))) (same_bit j e)
-        ∙ ap (λ (z : ℕ). cond (eqb i j) true (bit (get_or ws z 0) (j % 64))) (sym place)
 
 -- a row of words is changed by those of another
 pub record Changed (f : ℕ → ℕ → ℕ) (old new : List ℕ) (row other count : ℕ) : Type 0 where

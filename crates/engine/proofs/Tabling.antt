@@ -1,5 +1,5 @@
 -- Raw tables one after another, and what the passes leave of them.
-use Rattle.std.proofs.Common.{◌≡◌, ℕ, ◌+◌, ◌*◌, ◌/◌, ◌%◌, ◌<◌, ◌≤◌, true, false, ◌↔◌, List, length, get_or, sym, refl, ap, ◌∙◌, subst, inl, inr, arith}
+use Rattle.std.proofs.Common.{◌≡◌, ℕ, ◌+◌, ◌*◌, ◌/◌, ◌%◌, ◌<◌, ◌≤◌, true, false, ◌↔◌, List, length, get_or, sym, ap, ◌∙◌, subst, inl, inr, arith}
 use Rattle.std.proofs.lemmas.Nat.{div_below}
 use Rattle.std.proofs.lemmas.List.{get_or_default}
 use Rattle.std.proofs.lemmas.Bool.{cases_eq, cases_lt, both_ways}
@@ -14,19 +14,11 @@ use Rattle.automata.specs.Machines.{Recognizes}
 use Rattle.automata.specs.Positions.{size}
 use Rattle.query.specs.declared.drafts.Atom.{Atom}
 use Rattle.walk.specs.Tables.{Tells, Written}
-use Rattle.joins.specs.Layouts.{tables, Ready}
+use Rattle.joins.specs.Layouts.{tables}
 use Rattle.joins.specs.Passes.{Passed}
 use Rattle.joins.proofs.Placing.{parts, whole}
 use Rattle.joins.proofs.Siding.{row_end}
 use Rattle.engine.specs.Filled.{Raw, Filled}
-
-pub raw_none : (g : Graph) (atoms : List Atom) (m : ℕ) (Z : List ℕ) → Raw g atoms m Z Z 0
-raw_none g atoms m Z = record {
-  pairs = λ z c r l. absurd (omega arith);
-  clean = λ c u v l. absurd (omega arith);
-  idle = λ l. absurd (omega arith);
-  rest = λ k l. refl;
-}
 
 -- one table more
 module _ (g : Graph) (atoms : List Atom) (z₀ : Atom) (m i : ℕ) (Z Y Y₂ : List ℕ) (im : i < m) (long : i < length atoms) (raw : Raw g atoms m Z Y i) where
@@ -67,13 +59,6 @@ raw_next g atoms z₀ m i Z Y Y₂ y e im long raw tells written =
     let F : ℕ → Type 0 = λ x. (r : Regex) → Recognizes (get_or atoms i z₀).automaton r → size r ≤ 63 → Tells (Joins g.has g.labels r) Y₂ (i * x) g.nodes in
     let G : ℕ → Type 0 = λ x. Written Y Y₂ (i * x) g.nodes (m * x) in
     raw_more g atoms z₀ m i Z Y Y₂ im long raw (subst F e tells) (subst G e written)
-
--- raw tables are ready for the passes
-pub raw_ready : (g : Graph) (atoms : List Atom) (m : ℕ) (Z Y : List ℕ) → 0 < m → Raw g atoms m Z Y m → Ready Y m g.nodes (width g.nodes)
-raw_ready g atoms m Z Y pos raw = record {
-  clean = raw.clean;
-  zero = λ k a b. raw.idle pos k a (omega (arith, g.sized.0));
-}
 
 -- the pairs of the raw tables are those of the query's atoms
 module _ (g : Graph) (q : Query) (r : Relations) (tells : (c u v : ℕ) → c < q.count → (r c u v ≡ true) ↔ Pair g q c u v) where

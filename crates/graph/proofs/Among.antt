@@ -8,7 +8,7 @@ use Rattle.std.specs.List.{AllWithin, HoldsAt}
 use Rattle.std.specs.Option.{MatchOption}
 use Rattle.graph.specs.declared.edges.Edge.{Edge}
 use Rattle.graph.specs.Edges.{edge, blank, is, among, holds}
-use Rattle.graph.proofs.Same.{decides_is, is_other}
+use Rattle.graph.proofs.Same.{decides_is}
 use Rattle.graph.proofs.OneEdge.{Changed}
 
 abbrev pub Stands : List Edge → ℕ → Edge → Type 0
@@ -145,11 +145,6 @@ module _ (xs : List Edge) (n i : ℕ) (within : n ≤ length xs) (l : i < n) (d 
 -- e stands at place i
 pub among_at : (xs : List Edge) (n i : ℕ) (e : Edge) → i < n → get_or xs i blank ≡ e → holds (among xs n) e ≡ true
 among_at xs n i e l p = (decides_among xs n e).1 (i, l, p)
-
-pub among_skip : (xs : List Edge) (i : ℕ) (e : Edge) → (get_or xs i blank ≡ e → ⊥) → holds (among xs i) e ≡ false → holds (among xs (i + 1)) e ≡ false
-among_skip xs i e ne f =
-    let off = is_other (get_or xs i blank) e.from e.label e.to ne in
-    let step : holds (among xs (suc i)) e ≡ false = cc in rw add-one step
 
 -- reads of the first n places
 pub length_taken : (xs : List Edge) (n : ℕ) → n ≤ length xs → length (take n xs) ≡ n

@@ -34,7 +34,7 @@ impl<'a> EdgeList<'a> {
         self.len >= self.slots.len()
     }
 
-    // Writes a new edge into the next place.
+    // Writes a new edge into the next place. What stays as it was is said in each contract: no ghost field can compare two states.
     pub(crate) fn append(&mut self, e: Edge)
         requires room { self.old.len < length self.old.slots.now }
         requires legal { Legal self.old.sizes.nodes self.old.sizes.labels e.from e.label e.to }

@@ -1,9 +1,9 @@
 -- Notes and keeps on a side, row by row, and a whole step.
-use Rattle.std.proofs.Common.{◌≡◌, ℕ, ◌+◌, ◌*◌, ◌/◌, ◌%◌, ◌<◌, ◌≤◌, Bool, true, false, cond, ◌&&◌, ◌||◌, eqb, ◌⊎◌, List, get_or, sym, refl, ap, ◌∙◌, subst, inl, inr, add-mul, one-mul, arith}
+use Rattle.std.proofs.Common.{◌≡◌, ℕ, ◌+◌, ◌*◌, ◌/◌, ◌%◌, ◌<◌, ◌≤◌, Bool, true, false, cond, ◌&&◌, ◌||◌, List, get_or, sym, refl, ap, ◌∙◌, subst, inl, inr, add-mul, one-mul, arith}
 use Rattle.std.proofs.lemmas.Nat.{div_below, mul-le}
-use Rattle.std.proofs.lemmas.Bool.{cases_eq, and_parts, and_from, and_right, or_cases, or_left, or_right, both_ways, eq-eqb, eqb-true}
+use Rattle.std.proofs.lemmas.Bool.{cases_eq, and_parts, and_from, and_right, or_cases, or_left, or_right, both_ways}
 use Rattle.bits.specs.Bits.{bit}
-use Rattle.bits.specs.Rows.{row_bit, RowSet, Cleared, Narrowed, Widened, SomeBit}
+use Rattle.bits.specs.Rows.{row_bit, Cleared, Narrowed, Widened}
 use Rattle.bits.proofs.Laws.{bit_zero}
 use Rattle.joins.specs.Sides.{RowNoted, NotedToo, Noted, RowKept, KeptBy, Joined}
 
@@ -13,10 +13,6 @@ row_end x u w lt = omega (arith, mul-le (x + 1) w u w (omega arith) (omega arith
 
 pub row_next : (u w : ℕ) → (u + 1) * w ≡ u * w + w
 row_next u w = add-mul u 1 w ∙ ap (λ (z : ℕ). u * w + z) (one-mul w)
-
-and_yes : (a b : Bool) → b ≡ true → a ≡ (a && b)
-and_yes true b e = sym e
-and_yes false b e = refl
 
 -- bits of a row whose words did not change
 same_bit : (s t : List ℕ) (row w : ℕ) → ((k : ℕ) → row ≤ k → k < row + w → get_or t k 0 ≡ get_or s k 0) → (v : ℕ) → v < w * 64 → row_bit t row v ≡ row_bit s row v
@@ -28,36 +24,6 @@ zero_bit : (t : List ℕ) (row w : ℕ) → ((k : ℕ) → row ≤ k → k < row
 zero_bit t row w zeros v vw =
     let i : v / 64 < w = div_below v 64 w (omega arith) vw in
     ap (λ (z : ℕ). bit z (v % 64)) (zeros (row + v / 64) (omega arith) (omega arith)) ∙ bit_zero (v % 64)
-
-set_bit : (b c : Bool) → (cond b true c ≡ true) → (b ≡ true) ⊎ (c ≡ true)
-set_bit true c h = inl refl
-set_bit false c h = inr h
-
-set_old : (b c : Bool) → c ≡ true → cond b true c ≡ true
-set_old true c h = refl
-set_old false c h = h
-
-pub row_noted_yes : (s t : List ℕ) (row w mask u : ℕ) → u < w * 64 → SomeBit s row w → RowSet s t mask u → RowNoted s t row w mask u
-row_noted_yes s t row w mask u uw y m = record {
-  some = λ x h. elim (set_bit (eqb u x) (row_bit s mask x) (sym (m.row x) ∙ h)) [
-    | inl e ↦ inr (sym (eqb-true u x e), y)
-    | inr e ↦ inl e
-  ];
-  old = λ x h. m.row x ∙ set_old (eqb u x) (row_bit s mask x) h;
-  all = λ v vw h. m.row u ∙ ap (λ (b : Bool). cond b true (row_bit s mask u)) (eq-eqb u u refl);
-  rest = λ k o. let i : u / 64 < w = div_below u 64 w (omega arith) uw in m.rest k (λ e. o (omega arith) (omega arith));
-}
-
-pub row_noted_no : (s : List ℕ) (row w mask u : ℕ) → (SomeBit s row w → ⊥) → RowNoted s s row w mask u
-row_noted_no s row w mask u n = record {
-  some = λ x h. inl h;
-  old = λ x h. h;
-  all = λ v vw h. absurd (n (v, vw, h));
-  rest = λ k o. refl;
-}
-
-pub noted_none : (s : List ℕ) (start w mask : ℕ) (side : Bool) → NotedToo s s start 0 w mask side
-noted_none s start w mask side = record { some = λ x xw h. inl h; old = λ x xw h. h; all = λ u v un vw h. absurd (omega arith); rest = λ k o. refl }
 
 pub noted_more : (s t r : List ℕ) (start u w mask : ℕ) → start + u * w + w ≤ mask → NotedToo s t start u w mask true → RowNoted t r (start + u * w) w mask u → NotedToo s r start (u + 1) w mask true
 noted_more s t r start u w mask fits k a =
@@ -107,17 +73,11 @@ noted_from s t r start n w mask side fits c a =
       rest = λ j o. a.rest j o ∙ c.rest j o;
     }
 
-pub row_kept_yes : (s : List ℕ) (row w mask u : ℕ) → row_bit s mask u ≡ true → RowKept s s row w mask u
-row_kept_yes s row w mask u h = record { bits = λ v vw. and_yes (row_bit s row v) (row_bit s mask u) h; rest = λ k o. refl }
-
 pub row_kept_no : (s t : List ℕ) (row w mask u : ℕ) → row_bit s mask u ≡ false → Cleared s t row w → RowKept s t row w mask u
 row_kept_no s t row w mask u h c = record {
   bits = λ v vw. zero_bit t row w c.zero v vw ∙ sym (and_right (row_bit s row v) (row_bit s mask u) h);
   rest = c.rest;
 }
-
-pub kept_none : (s : List ℕ) (start w mask : ℕ) (side : Bool) → KeptBy s s start 0 w mask side
-kept_none s start w mask side = record { bits = λ u v un vw. absurd (omega arith); rest = λ k o. refl }
 
 -- one row more, whatever is done to it
 kept_row : (s t r : List ℕ) (start u w mask : ℕ) (side : Bool) → start + u * w + w ≤ mask → u < w * 64 → KeptBy s t start u w mask side

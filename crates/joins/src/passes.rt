@@ -48,6 +48,7 @@ fn climb(words: &mut [u64], atoms: &[Ends], order: &Order, rows: Rows)
     requires ordered { (x : ℕ) × Ordered (of atoms.now) (length atoms.now) x (ranks order.now) }
     ensures { Climbed (of atoms.now) (length atoms.now) (ranks order.now) words.old words.new rows.count rows.width 1 }
 {
+    // By number: it is the rank that the contract counts by.
     for i in (1..atoms.len()).rev() {
         let step = order.steps[i];
         semijoin(
@@ -69,6 +70,7 @@ fn descend(words: &mut [u64], atoms: &[Ends], order: &Order, rows: Rows)
     requires ordered { (x : ℕ) × Ordered (of atoms.now) (length atoms.now) x (ranks order.now) }
     ensures { Descended (of atoms.now) (length atoms.now) (ranks order.now) words.old words.new rows.count rows.width (length atoms.now) }
 {
+    // By number: it is the rank that the contract counts by.
     for i in 1..atoms.len() {
         let step = order.steps[i];
         semijoin(

@@ -3,11 +3,6 @@ use Rattle.std.proofs.Common.{◌≡◌, ℕ, ◌+◌, ◌*◌, ◌≤◌, Bool,
 use Rattle.meaning.specs.Graphs.{Edges, Legal, count, sum_below}
 use Rattle.meaning.proofs.Sums.{sum_cong, sum_none, sum_more, sum_le}
 
-pub count_cong : (n q : ℕ) (E E' : Edges) → ((u a v : ℕ) → E' u a v ≡ E u a v) → count n q E' ≡ count n q E
-unfolding count
-count_cong n q E E' h =
-    sum_cong n _ _ (λ u _. sum_cong q _ _ (λ a _. sum_cong n _ _ (λ v _. ap (λ (b : Bool). cond b 1 0) (h u a v))))
-
 pub count_none : (n q : ℕ) (E : Edges) → ((u a v : ℕ) → E u a v ≡ false) → count n q E ≡ 0
 unfolding count
 count_none n q E h =

@@ -1,5 +1,5 @@
 -- A first place from what the library says of `find` over a range, and of `position` in a list.
-use Rattle.std.proofs.Common.{ℕ, zero, ◌<◌, ◌≤◌, List, length, slice_index_or, Option, Some, None, ⊎_elim, arith}
+use Rattle.std.proofs.Common.{ℕ, ◌<◌, ◌≤◌, List, length, slice_index_or, Option, Some, None, ⊎_elim, arith}
 use Rattle.std.specs.List.{AllWithin, HoldsAt}
 use Rattle.std.proofs.lemmas.Bool.{cases_lt}
 use Rattle.std.specs.Option.{MatchOption}

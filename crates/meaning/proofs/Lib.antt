@@ -6,3 +6,4 @@ pub mod Chains
 pub mod Pigeonhole
 pub mod TupleOrder
 pub mod Listing
+pub mod Results

@@ -51,6 +51,7 @@ fn step_to(atom: usize, a: Ends, seen: &[Option<usize>; 256]) -> Option<Step>
 }
 
 // The step to the earliest atom that has no rank yet and has a variable that is seen.
+// That there are at most eight is asked here too, since the slice is handed on as it is.
 fn next_step(atoms: &[Ends], rank: &[Option<usize>; 8], seen: &[Option<usize>; 256]) -> Option<Step>
     requires { length atoms.now ≤ 8 }
     ensures none { IfNone result ((d : ℕ) → d < length atoms.now → Open (of atoms.now) rank.now seen.now d → ⊥) }

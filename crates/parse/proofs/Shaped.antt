@@ -1,5 +1,5 @@
 -- The pairs and places that the code keeps are those of the text.
-use Rattle.std.proofs.Common.{◌≡◌, ℕ, zero, suc, ◌+◌, ◌<◌, ◌≤◌, List, [], ◌∷◌, ◌++◌, length, get_or, take, Err, sym, refl, ap, ◌∙◌, inl, inr, arith, length-append, length-take, get_or-take}
+use Rattle.std.proofs.Common.{◌≡◌, ℕ, zero, suc, ◌+◌, ◌<◌, List, [], ◌∷◌, ◌++◌, length, get_or, take, Err, sym, refl, ap, ◌∙◌, inl, inr, arith, length-append, length-take, get_or-take}
 use Rattle.std.proofs.lemmas.List.{get_or_append_left, get_or_push, same_lists}
 use Rattle.std.proofs.lemmas.Bool.{cases_lt}
 use Rattle.shapes.specs.declared.checks.Ends.{Ends}
@@ -82,10 +82,3 @@ numbered head xs (UnusedVariable i) v = tt
 numbered head xs (CyclicAtom i) v = v.2.0
 numbered head xs (UnconnectedAtom i) v = v.3.0
 numbered head xs (LoneVariable i) v = tt
-
-pub numbered_more : (m n : ℕ) (f : Fault) → m ≤ n → Numbered m f → Numbered n f
-numbered_more m n (RepeatedVariable i) l v = tt
-numbered_more m n (UnusedVariable i) l v = tt
-numbered_more m n (CyclicAtom i) l v = omega arith
-numbered_more m n (UnconnectedAtom i) l v = omega arith
-numbered_more m n (LoneVariable i) l v = tt

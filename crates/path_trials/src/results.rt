@@ -75,6 +75,7 @@ fn check_row<G: Graph>(rt: &impl Abort, graph: &G, row: Case) -> Result<(), Fail
     Ok(())
 }
 
+// As in the tests of the record, with which these share no crate of tests.
 fn put_all<G: Graph>(graph: &mut G, edges: &[(u16, u8, u16)]) {
     for (from, label, to) in edges {
         let e = Edge {

@@ -2,7 +2,6 @@
 use Rattle.std.proofs.Common.{◌≡◌, ℕ, zero, suc, ◌+◌, ◌<◌, ◌≤◌, true, false, ◌⊎◌, List, [], ◌∷◌, ◌++◌, length, get_or, take, drop, IfSome, Some, None, Ok, Err, Option, sym, refl, ap, ◌∙◌, subst, inl, inr, append_assoc, append-nil, arith, length-append, length-drop, MatchOption}
 use Rattle.std.proofs.lemmas.Bool.Decides.{nat_tests}
 use Rattle.std.proofs.lemmas.Bool.{cases_lt}
-use Rattle.std.proofs.lemmas.List.{drop_all}
 use Rattle.query.specs.declared.cursor.Reader.{Reader}
 use Rattle.query.specs.declared.drafts.Atom.{Atom}
 use Rattle.query.specs.declared.drafts.Head.{Head}
@@ -18,10 +17,6 @@ use Rattle.query.specs.Readings.{Atomed, Headed, Claused, Drafted, Wholly}
 use Rattle.query.proofs.Once.{one_query}
 use Rattle.query.proofs.Letters.{over_not}
 use Rattle.query.proofs.Stages.{goes_append, runs_head, runs_atoms, runs_query, query_done, halts_under, dead_goes}
-
--- An atom behind those of the draft.
-pub clause_fails : {z a : Reader} {d : Draft} {y : ℕ} → Atomed z a (Err y) → Claused z a d d (Err y)
-clause_fails o = record { went = o.went; reads = o.reads }
 
 atom_long : (t : AtomTree) → 2 ≤ length (atom_text t)
 atom_long (atom_tree u h i v k) = omega arith
@@ -273,14 +268,6 @@ whole_rest {xs} {s} {m} i e lt = (
 later : (x : Option ℕ) (e f : ℕ) → e ≤ f → IfSome x (λ p. p < e) → IfSome x (λ p. p < f)
 later None e f l h = tt
 later (Some p) e f l h = omega arith
-
-pub whole_read : {xs : List ℕ} {s m : Reader} {d : Draft} → (i : SoFar xs s d) → Eats 44 s m false → length xs ≤ m.at → Wholly xs (Ok d)
-whole_read {xs} {s} {m} {d} i e ge = (
-  i.head,
-  i.atoms,
-  sym (i.splits ∙ ap (λ y. names i.head ++ 58 ∷ (atoms_text i.atoms ++ y)) (drop_all s.at s.text.now (omega (arith, ap length i.text, e.takes.0))) ∙ ap (λ y. names i.head ++ 58 ∷ y) (append-nil (atoms_text i.atoms))),
-  record { head = i.drafted.head; count = i.drafted.count; rows = i.drafted.rows; over = i.drafted.over; before = later d.over s.at (length xs) (omega (arith, ap length i.text, i.within)) i.drafted.before },
-)
 
 pub too_large : {xs : List ℕ} {d : Draft} {p : ℕ} → Wholly xs (Ok d) → d.over ≡ Some p → IsTooLarge xs p
 too_large {xs} {d} {p} w e =

@@ -281,6 +281,3 @@ sign_more x y {a} {b} {n} {m0} {m1} {m2} {f0} {f1} {g} i s q p e w k = record {
       holds = record { built = k.part c u.tree u.holds.built; counts = omega (arith, k.same, u.holds.counts, k.tree_size u.tree) };
       kept = kept_then (omega arith) u.kept (k.kept c u.tree u.holds.built);
     }
-
-pub moves_none : (z : Reader) (m : Builder) (f : Part) → z.at ≤ length z.text.now → m.count ≤ z.at + 1 → Moved step z z m m f f
-moves_none z m f w k = record { within = w; grows = omega arith; text = refl; few = k; took = λ t b h. record { tree = t; splits = refl; holds = h; kept = kept_same b m } }

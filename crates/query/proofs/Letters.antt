@@ -1,8 +1,8 @@
 -- The 64th letter or dot of an expression.
-use Rattle.std.proofs.Common.{◌≡◌, ℕ, zero, suc, ◌+◌, ◌-◌, ◌<◌, ◌≤◌, Bool, true, false, cond, List, [], ◌∷◌, ◌++◌, length, get_or, drop, take, Some, None, sym as back, refl, ap, ◌∙◌, inl, inr, append_assoc, append-nil, arith, length-append}
+use Rattle.std.proofs.Common.{◌≡◌, ℕ, zero, suc, ◌+◌, ◌-◌, ◌<◌, ◌≤◌, Bool, true, false, cond, List, [], ◌∷◌, ◌++◌, length, get_or, drop, take, Some, None, sym as back, refl, ap, ◌∙◌, inl, inr, append_assoc, arith, length-append}
 use Rattle.std.proofs.lemmas.Grind.{common_steps}
 use Rattle.std.proofs.lemmas.Bool.{le-leb, cases_lt}
-use Rattle.std.proofs.lemmas.List.{drop_more, drop_all}
+use Rattle.std.proofs.lemmas.List.{drop_more}
 use Rattle.query.specs.Grammar as G
 use Rattle.query.specs.Grammar.{Layer, Tree, text, letter, dot, group, plain, one_step, joined, one_sequence, either}
 use Rattle.automata.specs.Positions.{size}
@@ -45,9 +45,6 @@ pub record Sought (xs : List ℕ) (from at seen : ℕ) : Type 0 where
   pub place : at ≡ from + length passed
   pub few : seen ≤ 63
 
-pub sought_none : (xs : List ℕ) (from : ℕ) → Sought xs from from 0
-sought_none xs from = record { passed = []; splits = refl; many = refl; place = omega arith; few = omega arith }
-
 pub sought_more : {xs : List ℕ} {from at seen : ℕ} (n : ℕ) → at < length xs → Sought xs from at seen → seen + weigh (get_or xs at 0) ≡ n → n ≤ 63 → Sought xs from (at + 1) n
 sought_more {xs} {from} {at} {seen} n lt i e le = record {
   passed = i.passed ++ get_or xs at 0 ∷ [];
@@ -56,26 +53,6 @@ sought_more {xs} {from} {at} {seen} n lt i e le = record {
   place = omega (arith, i.place, length-append i.passed (get_or xs at 0 ∷ []));
   few = le;
 }
-
-pub sought_here : {xs : List ℕ} {from at seen : ℕ} → at < length xs → (i : Sought xs from at seen) → symbol (get_or xs at 0) ≡ true → seen ≡ 63 → (j : ℕ) × (at ≡ from + j) × SixtyFourth (drop from xs) j
-sought_here {xs} {from} {at} lt i s e = (
-  length i.passed,
-  i.place,
-  record {
-    before = i.passed;
-    byte = get_or xs at 0;
-    behind = drop (at + 1) xs;
-    splits = i.splits ∙ ap (λ y. i.passed ++ y) (drop_more xs at 0 lt);
-    letter = s;
-    many = i.many ∙ e;
-    place = refl;
-  },
-)
-
-pub sought_nowhere : {xs : List ℕ} {from at seen : ℕ} → length xs ≤ at → (i : Sought xs from at seen) → 64 ≤ symbols (drop from xs) → ⊥
-sought_nowhere {xs} {from} {at} ge i h =
-    let e : symbols (drop from xs) ≡ symbols i.passed = ap symbols (i.splits ∙ ap (λ y. i.passed ++ y) (drop_all at xs ge) ∙ append-nil i.passed) in
-    omega (arith, e, i.many, i.few)
 
 -- A 64th letter or dot of a longer text stands in its beginning if that has as many.
 in_front : (u e rest : List ℕ) (b : ℕ) (v : List ℕ) → u ++ b ∷ v ≡ e ++ rest → symbols u < symbols e → (w : List ℕ) × (e ≡ u ++ b ∷ w)
@@ -125,9 +102,6 @@ inside_many (filled t) h = omega (arith, symbols_text t)
 inside_few : (i : Inside) → size (inside_regex i) ≤ 63 → symbols (inside_text i) ≤ 63
 inside_few nothing h = omega arith
 inside_few (filled t) h = omega (arith, symbols_text t)
-
-pub over_ninth : (b n : ℕ) (t : AtomTree) → n ≡ 8 → Lowest (Over b n t) (Some b)
-over_ninth b n t e = (inl (e, refl), λ q. elim [ inl h ↦ (let k = h.1 in omega arith) | inr h ↦ (let k = h.1 in omega arith) ])
 
 pub over_letters : (xs : List ℕ) (b n p : ℕ) (t : AtomTree) (ys : List ℕ) → (n ≡ 8 → ⊥) → 63 < size (inside_regex (inside_of t)) → drop b xs ≡ atom_text t ++ ys → (64 ≤ symbols (drop (b + 2) xs) → (j : ℕ) × (p ≡ b + 2 + j) × SixtyFourth (drop (b + 2) xs) j) → Lowest (Over b n t) (Some p)
 over_letters xs b n p (atom_tree u h i v k) ys ne lt e f =

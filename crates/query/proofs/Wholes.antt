@@ -1,7 +1,5 @@
 -- Heads and atoms, read or stopped.
-use Rattle.std.proofs.Common.{◌≡◌, ℕ, ◌+◌, ◌<◌, ◌≤◌, true, false, cond, ◌≢◌, ◌⊎◌, List, [], ◌∷◌, ◌++◌, length, drop, set, Ok, Err, sym, refl, ap, ◌∙◌, subst, inl, inr, append_assoc, append-nil, arith, length-append, length-set, get_or-set_other, get_or-set_same}
-use Rattle.std.proofs.lemmas.Bool.{cases_lt}
-use Rattle.std.proofs.lemmas.List.{get_or_append_left, get_or_push}
+use Rattle.std.proofs.Common.{◌≡◌, ℕ, ◌≤◌, true, false, cond, List, [], ◌∷◌, ◌++◌, length, drop, Ok, Err, sym, refl, ap, ◌∙◌, subst, append_assoc, append-nil, arith, length-append}
 use Rattle.std.proofs.lemmas.Bool.Decides.{nat_tests}
 use Rattle.query.specs.declared.cursor.Reader.{Reader}
 use Rattle.query.specs.declared.drafts.Atom.{Atom}
@@ -11,7 +9,7 @@ use Rattle.automata.specs.declared.builder.Builder.{Builder}
 use Rattle.query.specs.Grammar.{alternative, text}
 use Rattle.automata.specs.Parts.{Holds}
 use Rattle.query.specs.Outcome.{rest, Outcome, Eats}
-use Rattle.query.specs.Queries.{Capital, HeadTree, one_name, more_names, names, Inside, nothing, filled, inside_text, inside_regex, AtomTree, atom_tree, AtomsTree, one_atom, query_tree}
+use Rattle.query.specs.Queries.{Capital, HeadTree, one_name, more_names, names, Inside, nothing, filled, inside_text, inside_regex, AtomTree, atom_tree, one_atom, query_tree}
 use Rattle.query.specs.Viable.{capital, start, in_head, at_atom, at_bracket, opened, at_second, dead, go, goes, Halts}
 use Rattle.query.specs.Limits.{Stored, Keeps, first_of, second_of, inside_of}
 use Rattle.query.specs.Readings.{Named, Enclosed, Atomed, Headed}
@@ -104,27 +102,6 @@ atom_read {z} {a} {b} {n} {p} {u} {v} {m} {m'} {f} o e i s k one = record {
     t : AtomTree
     t = atom_tree u o.reads.0 i.reads.0 v s.reads.0
 
-keeps_put : (h : Head) (ns : List ℕ) (c : ℕ) → h.count < 26 → Keeps h ns → Keeps (record { names = set h.names h.count c; count = h.count + 1 }) (ns ++ c ∷ [])
-keeps_put h ns c lt k = record {
-  count = omega (arith, k.count, length-append ns (c ∷ []));
-  kept = λ i j l. elim (cases_lt i (length ns)) [
-    | inl m ↦ (let n : i ≢ h.count = omega (arith, k.count) in get_or-set_other h.names h.count i c 0 n ∙ k.kept i j m ∙ sym (get_or_append_left ns (c ∷ []) 0 i m))
-    | inr g ↦ (let e : i ≡ h.count = omega (arith, k.count, length-append ns (c ∷ [])) in rw e (get_or-set_same h.names h.count c 0 (omega (arith, k.long)) ∙ sym (get_or_push ns c 0 h.count (sym k.count))))
-  ];
-  long = length-set h.names h.count c ∙ k.long;
-}
-
-keeps_skip : (h : Head) (ns : List ℕ) (c : ℕ) → 26 ≤ h.count → Keeps h ns → Keeps (record { names = h.names; count = h.count + 1 }) (ns ++ c ∷ [])
-keeps_skip h ns c ge k = record {
-  count = omega (arith, k.count, length-append ns (c ∷ []));
-  kept = λ i j l. let m : i < length ns = omega (arith, k.count) in k.kept i j m ∙ sym (get_or_append_left ns (c ∷ []) 0 i m);
-  long = k.long;
-}
-
-pub keeps_push : (h : Head) (g : Head) (ns : List ℕ) (c : ℕ) → ((h.count < 26) × (g ≡ record { names = set h.names h.count c; count = h.count })) ⊎ ((26 ≤ h.count) × (g ≡ h)) → Keeps h ns → Keeps (record { names = g.names; count = g.count + 1 }) (ns ++ c ∷ [])
-keeps_push h g ns c (inl e) k = rw e.1 (keeps_put h ns c e.0 k)
-keeps_push h g ns c (inr e) k = rw e.1 (keeps_skip h ns c e.0 k)
-
 -- The head so far.
 pub record HeadSoFar (old new : Reader) (o : Head) : Type 0 where
   pub within : new.at ≤ length new.text.now
@@ -134,9 +111,6 @@ pub record HeadSoFar (old new : Reader) (o : Head) : Type 0 where
   pub tree : HeadTree
   pub splits : new.text.now ≡ names tree ++ rest new
   pub keeps : Keeps o (names tree)
-
-any_atoms : AtomsTree
-any_atoms = one_atom (atom_tree 65 letter_a nothing 65 letter_a)
 
 rest_all : (z : Reader) → z.at ≡ 0 → rest z ≡ z.text.now
 rest_all z e = ap (λ y. drop y z.text.now) e
@@ -187,12 +161,6 @@ head_fails {y0} {z} {b} {m} {n} {u} q0 f i e k = record {
         (λ x bs q. no_head x (k.reads.2 x bs (sym k.reads.1 ∙ q)) (λ h. e.takes.2 bs (sym (k.reads.1 ∙ e.takes.1) ∙ q ∙ ap (λ y. y ∷ bs) h)))
         (λ e. let k : ◌≡◌ {A = ℕ} 0 1 = cc in omega arith),
   );
-}
-
-pub head_read : {y0 z b m : Reader} {u : ℕ} {o : Head} → y0.at ≡ 0 → Named y0 z (Ok u) → (i : HeadSoFar z b o) → Eats 58 b m true → Headed y0 m (Ok o)
-head_read {y0} {z} {b} {m} q0 f i e = record {
-  went = record { within = e.within; grows = omega (arith, f.went.grows, i.grows, e.takes.0); text = e.text ∙ i.text ∙ f.went.text };
-  reads = (i.tree, rest_all y0 q0 ∙ sym (i.text ∙ f.went.text) ∙ i.splits ∙ ap (λ y. names i.tree ++ y) e.takes.1, i.keeps);
 }
 
 pub no_names : {h : Head} → h.count ≡ 0 → length h.names ≡ 26 → Keeps h []

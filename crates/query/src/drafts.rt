@@ -114,7 +114,7 @@ pub(crate) fn sealed(first: u8, second: u8, place: usize, out: Builder, part: Pa
     }
 }
 
-// What a place past the last atom holds; nothing reads it.
+// What a place past the last atom holds; nothing reads it. No `Default`, since arrays of 64 have none.
 pub(crate) fn empty_atom() -> Atom {
     let automaton = Automaton {
         symbols: [Symbol::Any; 64],

@@ -12,10 +12,7 @@ use super::drafts::{Draft, Fault, Query, empty_atom};
 pub fn read_query(text: &[u8]) -> Result<Query, Fault>
     ensures { Judged text.now result }
 {
-    let draft = match whole(text) {
-        Ok(draft) => draft,
-        Err(place) => return Err(Fault::NoQuery(place)),
-    };
+    let draft = whole(text).map_err(Fault::NoQuery)?;
     match draft.over {
         None => {
             let head = draft.head;

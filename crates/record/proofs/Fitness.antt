@@ -1,6 +1,6 @@
 -- Fitting by the places of variables is fitting by the variables.
-use Rattle.std.proofs.Common.{◌≡◌, ℕ, ◌<◌, Bool, true, false, cond, eqb, List, length, get_or, take, Some, None, Option, IfSome, sym, refl, ap, ◌∙◌, subst, inl, inr, arith, length-take, get_or-take}
-use Rattle.std.proofs.lemmas.Bool.{both_ways, cases_eq, cases_lt}
+use Rattle.std.proofs.Common.{◌≡◌, ℕ, ◌<◌, Bool, true, cond, eqb, List, length, get_or, take, Some, None, Option, IfSome, sym, ap, ◌∙◌, subst, inl, inr, arith, length-take, get_or-take}
+use Rattle.std.proofs.lemmas.Bool.{cases_eq, cases_lt}
 use Rattle.meaning.specs.Assignments.{Relations}
 use Rattle.meaning.specs.Shapes.{Atoms, Has}
 use Rattle.meaning.specs.Tuples.{node, Lowest, Within}

@@ -7,7 +7,7 @@
 --     Fitting q s xs      xs fits the workspace s, for the query and the number of nodes that the record q notes
 --     Calibrates g q s r q' t    calibrate with the graph g
 --     Nexts q s out r q' out'    next
-use Rattle.std.specs.Prelude.{◌≡◌, ℕ, ◌+◌, ◌*◌, ◌<◌, ◌≤◌, Bool, true, false, List, [], length, take, Some, None, Ok, Err, Option, Result, slice_index, slice_index_or}
+use Rattle.std.specs.Prelude.{◌≡◌, ℕ, ◌+◌, ◌*◌, ◌<◌, ◌≤◌, Bool, true, false, List, length, take, Some, None, Ok, Err, Result, slice_index, slice_index_or}
 use Rattle.bits.specs.Rows.{width}
 use Rattle.meaning.specs.Assignments.{Relations}
 use Rattle.meaning.specs.Graphs.{Graph}

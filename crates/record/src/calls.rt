@@ -104,7 +104,7 @@ pub(crate) fn calibrate<G: Graph>(
     prepare(state, query, graph, words)
 }
 
-// Gives the next answer of a listing, or answers false at its end.
+// Gives the next answer of a listing, or answers false at its end. A bool, since the answer itself is the memory that the caller lends.
 pub(crate) fn next(
     _state: &Listing,
     query: &mut Query,

@@ -33,6 +33,7 @@ fn opened_or_refused(rt: HostRuntime) {
     assert_eq!(rt; answer(b"AC:A[a]B,B[a]C"), Err((11, 1)));
 }
 
+// As in the tests of paths, with which these share no crate of tests.
 fn put_all<G: Graph>(graph: &mut G, edges: &[(u16, u8, u16)]) {
     for (from, label, to) in edges {
         let e = Edge {

@@ -302,10 +302,6 @@ step_up n h a b xs zs ys e pos lt same low p =
     let d : (a - 1) + 1 ≡ a = omega arith in
     subst F (d ∙ e) (falls_up n h (a - 1) xs ys (omega arith) (λ i ia. p.other i ia ∙ same i (omega arith)) (omega (arith, same (a - 1) (omega arith))) (p.new ∙ ap (λ z. z + 1) (same (a - 1) (omega arith))))
 
--- one more rise keeps what the turn has kept
-pub rise_same : (a b : ℕ) (xs zs ys : List ℕ) → Put zs a (node zs a + 1) ys → ((i : ℕ) → i < a → node zs i ≡ node xs i) → (i : ℕ) → i < a → node ys i ≡ node xs i
-rise_same a b xs zs ys p same i ia = p.other i ia ∙ same i ia
-
 pub state_at : (go : ℕ → List ℕ → Type 0) (n h : ℕ) (noted : Bool) (last xs ys : List ℕ) (a b : ℕ) → xs ≡ ys → a ≡ b → State go n h noted last ys b → State go n h noted last xs a
 state_at go n h noted last xs ys a b e d s =
     let F : List ℕ → Type 0 = λ z. State go n h noted last z a in

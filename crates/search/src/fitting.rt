@@ -64,6 +64,7 @@ impl Tables<'_> {
         requires at { k < self.now.places.now.free }
         ensures { Decides result (Goes (placed self.now.places.now) (relations self.now) k cur.now) }
     {
+        // By number: it is an atom's.
         for c in 0..self.places.atoms {
             if !self.pair_goes(k, cur, c) {
                 return false;

@@ -43,6 +43,7 @@ pub fn check_shape(head: &[u8], atoms: &[Ends]) -> Result<(), Fault>
     if let Some(i) = first_unused(atoms, head) {
         return Err(Fault::UnusedVariable(i));
     }
+    // A match: over `map_err` and `?` the proof of the branches behind it was tried and did not close.
     let class = match classes(atoms) {
         Ok(class) => class,
         Err(i) => return Err(Fault::CyclicAtom(i)),

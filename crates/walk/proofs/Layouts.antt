@@ -1,5 +1,5 @@
 -- Rows and tables, word after word.
-use Rattle.std.proofs.Common.{◌≡◌, ℕ, ◌+◌, ◌-◌, ◌*◌, ◌/◌, ◌%◌, ◌^◌, ◌<◌, ◌≤◌, Bool, true, cond, ◌↔◌, List, [], ◌∷◌, ◌++◌, length, get_or, take, drop, sym, refl, ap, ◌∙◌, subst, ⊎_elim, add-mul, arith, length-append, length-drop, length-take}
+use Rattle.std.proofs.Common.{◌≡◌, ℕ, ◌+◌, ◌-◌, ◌*◌, ◌/◌, ◌%◌, ◌^◌, ◌<◌, ◌≤◌, Bool, true, cond, ◌↔◌, List, [], ◌∷◌, ◌++◌, length, get_or, take, drop, sym, refl, ap, ◌∙◌, subst, ⊎_elim, add-mul, arith, length-drop, length-take}
 use borrow.Rule.Slice.PartMut.{put_mid}
 use lib.Bits.{bit_and, and_le_r}
 use Rattle.std.proofs.lemmas.Nat.{mul-le}
@@ -35,9 +35,6 @@ pub kept_no : (Z : List ℕ) (t n accept x : ℕ) → bit_and (get_or Z (t + x) 
 kept_no Z t n accept x e k =
     has_zero k.1.0 (subst (λ (w : ℕ). Has w k.1.0) e ((has_and (get_or Z (t + x) 0) accept k.1.0).1 (k.1.1, k.1.2)))
 
-pub kept_as : (Z Y : List ℕ) (t n accept x : ℕ) → ((y : ℕ) → y < n → get_or Y (t + y) 0 ≡ get_or Z (t + y) 0) → Kept Z t n accept x → Kept Y t n accept x
-kept_as Z Y t n accept x f k = (k.0, (k.1.0, subst (λ (y : ℕ). Has y k.1.0) (sym (f x k.0)) k.1.1, k.1.2))
-
 -- a row, bit after bit
 module _ (P : ℕ → Type 0) (Z Y : List ℕ) (start k : ℕ) where
   pub row_none : Cleared Z Y start k → RowAt (Upto P 0) Y Y start k
@@ -69,14 +66,6 @@ module _ (P : ℕ → Type 0) (Z Y : List ℕ) (start k : ℕ) where
     rest = r.rest;
   }
 
--- the row of what P holds of is one of what Q holds of, and began at X
-pub row_as : (P Q : ℕ → Type 0) (X Z Y : List ℕ) (start k : ℕ) → ((x : ℕ) → P x ↔ Q x) → ((i : ℕ) → (start ≤ i → i < start + k → ⊥) → get_or Z i 0 ≡ get_or X i 0)
-    → RowAt P Z Y start k → RowAt Q X Y start k
-row_as P Q X Z Y start k same before r = record {
-  bits = λ x l. ((λ h. (same x).0 ((r.bits x l).0 h)), λ h. (r.bits x l).1 ((same x).1 h));
-  rest = λ i o. r.rest i o ∙ before i o;
-}
-
 -- a part of a list after it was written
 module _ (a k : ℕ) (xs ys : List ℕ) (l : a + k ≤ length xs) (m : length ys ≡ k) where
   front : length (take a xs) ≡ a
@@ -106,9 +95,6 @@ module _ (a k : ℕ) (xs ys : List ℕ) (l : a + k ≤ length xs) (m : length ys
 
 pub part_length : (xs : List ℕ) (a e : ℕ) → e ≤ length xs → length (take (e - a) (drop a xs)) ≡ e - a
 part_length xs a e h = simp (length-take, length-drop) (omega arith)
-
-pub put_length : (a k : ℕ) (xs ys : List ℕ) → a + k ≤ length xs → length ys ≡ k → length (put_mid a k xs ys) ≡ length xs
-put_length a k xs ys l m = simp (length-append, length-take, length-drop) (omega arith)
 
 -- a table, row after row
 pub table_none : (P : ℕ → ℕ → Type 0) (Z : List ℕ) (a k t m : ℕ) → TableAt P Z Z a k 0 t m

@@ -1,11 +1,10 @@
 -- The sets that `entered_by` and `successors` make.
-use Rattle.std.proofs.Common.{◌≡◌, ℕ, ◌+◌, ◌%◌, ◌<◌, ◌≤◌, Bool, true, false, cond, eqb, ◌⊎◌, ◌↔◌, get_or, Some, sym, ap, ◌∙◌, subst, inl, inr, ⊎_elim, mod-eq_of_lt, arith}
+use Rattle.std.proofs.Common.{◌≡◌, ℕ, ◌+◌, ◌%◌, ◌<◌, Bool, true, false, cond, eqb, ◌⊎◌, ◌↔◌, get_or, Some, sym, ap, ◌∙◌, subst, inl, inr, ⊎_elim, mod-eq_of_lt, arith}
 use lib.Bits.{bit_or}
 use Rattle.std.proofs.lemmas.Bool.{cases_eq, both_ways, eq-eqb, ne_eqb}
 use Rattle.bits.specs.Bits.{bit, Has, LowestBit}
 use Rattle.bits.proofs.Sets.{has_or, has_zero}
 use Rattle.automata.specs.declared.machine.Automaton.{Automaton}
-use Rattle.walk.specs.Moves.{Successors}
 
 -- r is the set of the numbers below i that P holds of
 abbrev pub Those : (ℕ → Type 0) → ℕ → ℕ → Type 0
@@ -56,9 +55,3 @@ following_more m p rest rest' r i low drops f = record {
     fewer s h = ⊎_elim
         (λ (e : i ≡ s). absurd (both_ways (bit rest' s) (drops s ∙ ap (λ (b : Bool). cond b false (bit rest s)) (eq-eqb i s e)) h))
         (λ (n : i ≡ s → ⊥). sym (other s n) ∙ h) (cases_eq i s)
-
-pub following_all : (m : Automaton) (p rest r : ℕ) → ((i : ℕ) → 0 ≤ i → bit rest i ≡ false) → Following m p rest r → Successors m p r
-following_all m p rest r none f = record {
-  some = f.some;
-  all = λ s t h k. ⊎_elim (λ o. absurd (both_ways (bit rest s) (none s (omega arith)) o)) (λ o. o) (f.all s t h k);
-}

@@ -19,6 +19,7 @@ fn write_row(words: &mut [u64], scratch: usize, n: usize, accept: u64, start: us
     ensures { RowAt (Kept words.old scratch n accept) words.old words.new start (words_of n) }
 {
     clear(words, start, width(n));
+    // By number: it is a node, a bit of the row and a place among the words.
     for v in 0..n {
         if words[scratch + v] & accept != 0 {
             set(words, start, v);

@@ -10,7 +10,7 @@ use super::records::Record;
 #[derive(Drop)]
 pub struct Reader<'a> {
     pub(crate) bytes: &'a [u8],
-    // The offset of the record to come.
+    // The offset of the record to come. A number, and not what is left of the file, since refusals answer it.
     pub(crate) at: usize,
     pub(crate) phase: Phase,
     ghost within: { at ≤ length bytes.now },

@@ -1,8 +1,5 @@
-use Rattle.parse.proofs.Arranging.{pairs_some, pairs_few, head_fits, start_used, accepted, ill_shaped}
+use Rattle.parse.proofs.Arranging.{pairs_some, pairs_few, start_used, accepted, ill_shaped}
 use Rattle.parse.proofs.arrange.Goals as goal
-
-pub slice_bounds-check_shape-end : goal.slice_bounds-check_shape-end
-slice_bounds-check_shape-end c = head_fits c.ends-pairs.result c.requires.holds c.ends-pairs.ensures.long c.ends-pairs.ensures.each
 
 pub reach-order-requires : goal.reach-order-requires
 reach-order-requires c =

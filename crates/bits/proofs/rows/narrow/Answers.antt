@@ -1,4 +1,4 @@
-use Rattle.std.proofs.Common.{◌≡◌, ℕ, ◌+◌, ◌-◌, ◌<◌, List, length, get_or, take, drop, arith, rules, ◌∙◌}
+use Rattle.std.proofs.Common.{◌≡◌, ℕ, ◌+◌, ◌-◌, ◌<◌, length, get_or, take, drop, arith, rules, ◌∙◌}
 use lib.Bits.{bit_and}
 use Rattle.bits.proofs.RowLaws.{changed_front, length_front, narrowed_from}
 use Rattle.bits.proofs.rows.narrow.Goals as goal

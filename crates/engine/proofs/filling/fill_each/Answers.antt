@@ -1,10 +1,7 @@
 use Rattle.std.proofs.Common.{◌≡◌, ℕ, ◌*◌, length, ap, ◌∙◌, arith, rules}
 use Rattle.bits.specs.Rows.{width}
-use Rattle.engine.proofs.Tabling.{raw_none, raw_next}
+use Rattle.engine.proofs.Tabling.{raw_next}
 use Rattle.engine.proofs.filling.fill_each.Goals as goal
-
-pub loop-c-init : goal.loop-c-init
-loop-c-init g c = raw_none _ _ _ _
 
 pub loop-c-preserved : goal.loop-c-preserved
 loop-c-preserved g c =

@@ -1,4 +1,4 @@
-use Rattle.std.proofs.Common.{◌≡◌, ℕ, ◌+◌, ◌*◌, ◌≤◌, List, length, take, sym, ap, ◌∙◌, subst, arith, length-take}
+use Rattle.std.proofs.Common.{◌≡◌, ℕ, ◌+◌, List, length, sym, ap, ◌∙◌, subst}
 use Rattle.bits.specs.Rows.{width}
 use Rattle.meaning.specs.Words.{one, any}
 use Rattle.shapes.specs.declared.checks.Ends.{Ends}
@@ -9,35 +9,10 @@ use Rattle.parse.specs.Meanings.{meaning}
 use Rattle.parse.specs.Shaping.{ends, no_atom}
 use Rattle.parse.proofs.Meant.{recognized}
 use Rattle.parse.proofs.Shaped.{ends_are, ends_long, number_some}
-use Rattle.joins.specs.Layouts.{Ready}
 use Rattle.joins.specs.Passes.{Passed}
 use Rattle.engine.specs.Filled.{Raw}
-use Rattle.engine.proofs.Tabling.{filled_from, raw_ready}
+use Rattle.engine.proofs.Tabling.{filled_from}
 use Rattle.engine.proofs.filling.fill_tables.Goals as goal
-
-pub reduce_all-requires : goal.reduce_all-requires
-reduce_all-requires g c =
-    let G = g.G.Graph.graph c.args.graph.now in
-    let N = G.nodes in
-    let p = c.args.parsed.now in
-    let m = p.query.count in
-    let n = c.of.result.count in
-    let nodes : n ≡ N = c.of.ensures.count ∙ c.node_count-n.ensures in
-    let W = c.of.result.width in
-    let wide : W ≡ width n = c.of.ensures.width ∙ ap width (sym c.of.ensures.count) in
-    let Y = c.fill_each.new.words in
-    let E = c.ends-pairs.result in
-    let L : length (take m E) ≡ m = omega (arith, length-take m E, c.ends-pairs.ensures.long, c.requires.some.1) in
-    let size : n * W ≡ N * width N = ap (λ (y : ℕ). n * y) wide ∙ ap (λ (y : ℕ). y * width y) nodes in
-    let room : m * (n * W) + (N + N) ≤ length Y = subst (λ (y : ℕ). m * y + (N + N) ≤ length Y) (sym size) (omega (arith, c.requires.room)) in
-    let room' : length (take m E) * (n * W) + (N + N) ≤ length Y = subst (λ (y : ℕ). y * (n * W) + (N + N) ≤ length Y) (sym L) room in
-    let ready = raw_ready G p.query.atoms m c.args.words.now Y c.requires.some.0 c.fill_each.ensures in
-    record {
-      some = (omega (arith, c.requires.some.0), omega (arith, c.requires.some.1));
-      room = omega (arith, G.sized.0);
-      ready = subst (λ (y : ℕ). Ready Y y n W) (sym L) (subst (λ (y : ℕ). Ready Y m n y) (sym wide) (subst (λ (y : ℕ). Ready Y m y (width y)) (sym nodes) ready));
-      ordered = c.requires.order E c.ends-pairs.ensures.long c.ends-pairs.ensures.each;
-    }
 
 pub returns : goal.returns
 returns g c xs a =

@@ -1,4 +1,4 @@
-use Rattle.std.proofs.Common.{◌+◌, List, get_or, take, sym, subst, arith, take_all}
+use Rattle.std.proofs.Common.{◌+◌, List, get_or, take, sym, subst, arith}
 use Rattle.std.proofs.lemmas.List.{take_more}
 use Rattle.graph.specs.declared.changes.Change.{Change}
 use Rattle.graph.specs.declared.changes.Change.TheVariants.{Put as put}
@@ -25,10 +25,3 @@ loop-change-preserved g c =
           (sym (take_more cs i (put blank) c.loop-change-test.true))
           more,
     )
-
-pub returns : goal.returns
-returns g c =
-    let m = g.G.Graph.graph in
-    let t = c.loop-change.tally in
-    subst (λ (z : List Change). Replays (m c.args.graph.now) z t.new t.gone (m c.loop-change.graph))
-    (take_all _ c.args.changes.now c.loop-change-test.false) c.loop-change.invariant.2

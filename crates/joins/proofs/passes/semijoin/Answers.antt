@@ -1,25 +1,8 @@
-use Rattle.std.proofs.Common.{◌*◌, ◌≤◌, sym, eqb, length, arith, rules}
+use Rattle.std.proofs.Common.{◌*◌, sym, eqb, length}
 use Rattle.shapes.specs.Checks.{of}
 use Rattle.joins.proofs.Siding.{row_end, joined_from}
 use Rattle.joins.proofs.Placing.{reduced_from}
 use Rattle.joins.proofs.passes.semijoin.Goals as goal
-
-pub overflow_mul-size : goal.overflow_mul-size
-overflow_mul-size c =
-    let l : c.args.rows.count * c.args.rows.width ≤ length c.args.words.now = omega (arith, row_end c.args.into (length c.args.atoms.now) (c.args.rows.count * c.args.rows.width) c.requires.into) in
-    search rules
-
-pub note-requires : goal.note-requires
-note-requires c = record {
-  apart = row_end c.args.from (length c.args.atoms.now) (c.args.rows.count * c.args.rows.width) c.requires.from;
-  room = c.requires.room;
-}
-
-pub keep-requires : goal.keep-requires
-keep-requires c = record {
-  apart = row_end c.args.into (length c.args.atoms.now) (c.args.rows.count * c.args.rows.width) c.requires.into;
-  room = omega arith;
-}
 
 pub returns : goal.returns
 returns c =

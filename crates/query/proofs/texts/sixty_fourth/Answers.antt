@@ -1,15 +1,8 @@
 use Rattle.std.proofs.Common.{◌≡◌, ℕ, ◌+◌, ◌-◌, ◌<◌, length, get_or, sym, ap, ◌∙◌, subst, arith}
 use Rattle.query.specs.Limits.{symbol}
-use Rattle.query.proofs.Letters.{Sought, sought_more, sought_here, sought_nowhere, weighs, weighs_not, read_from, length_from}
+use Rattle.query.proofs.Letters.{Sought, sought_more, weighs, weighs_not, read_from, length_from}
 use Rattle.query.proofs.texts.sixty_fourth.Goals.{then-is_symbol+else-seen-eq63, else-is_symbol}
 use Rattle.query.proofs.texts.sixty_fourth.Goals as goal
-
-pub returns-then-seen-eq63 : goal.returns-then-seen-eq63
-returns-then-seen-eq63 c = λ h.
-    let xs = c.args.text.now in
-    let long = length_from xs c.args.from in
-    let low : c.loop-i.i < length xs - c.args.from = omega (arith, long, c.loop-i-test.true) in
-    sought_here {xs = xs} (omega (arith, low)) c.loop-i.invariant (ap symbol (sym (read_from xs c.args.from c.loop-i.i c.requires low)) ∙ sym c.if-is_symbol.ensures) c.if-seen-eq63.true
 
 pub loop-i-preserved : goal.loop-i-preserved
 loop-i-preserved c =
@@ -26,6 +19,3 @@ loop-i-preserved c =
       | then-is_symbol+else-seen-eq63 w ↦ (let e = weighs (get_or xs (from + i) 0) (ap symbol (sym read) ∙ sym w.if-is_symbol.ensures) in let g = w.if-seen-eq63.false in sought_more c.if-is_symbol.seen at c.loop-i.invariant (omega (arith, w.seen-is, e)) (omega (arith, w.seen-is, c.loop-i.invariant.few, g)))
       | else-is_symbol w ↦ (let e = weighs_not (get_or xs (from + i) 0) (ap symbol (sym read) ∙ sym w.if-is_symbol.ensures) in sought_more c.if-is_symbol.seen at c.loop-i.invariant (omega (arith, w.seen-is, e)) (omega (arith, w.seen-is, c.loop-i.invariant.few)))
     ])
-
-pub returns : goal.returns
-returns c = λ h. absurd (sought_nowhere (omega (arith, length_from c.args.text.now c.args.from, c.loop-i-test.false)) c.loop-i.invariant h)

@@ -1,6 +1,6 @@
 use Rattle.std.proofs.Common.{refl, arith}
 use Rattle.std.proofs.lemmas.Result.{err_from_is_err_and}
-use Rattle.query.proofs.Drafting.{whole_headless, whole_first_fails, whole_begins, whole_more, whole_fails, whole_rest, whole_read}
+use Rattle.query.proofs.Drafting.{whole_headless, whole_first_fails, whole_begins, whole_more, whole_fails, whole_rest}
 use Rattle.query.proofs.texts.whole.Goals as goal
 
 pub returns-in_err-head : goal.returns-in_err-head
@@ -26,6 +26,3 @@ returns-in_err-clause-2 c =
 
 pub returns-then-reader-text : goal.returns-then-reader-text
 returns-then-reader-text c = whole_rest c.loop-reader.invariant c.loop-reader-test.ensures (omega arith)
-
-pub returns-else-reader-text : goal.returns-else-reader-text
-returns-else-reader-text c = whole_read c.loop-reader.invariant c.loop-reader-test.ensures (omega arith)

@@ -1,31 +1,12 @@
-use Rattle.std.proofs.Common.{◌≡◌, ℕ, ◌<◌, ◌≤◌, List, length, get_or, refl, sym, ap, ◌∙◌, subst, arith, rules}
-use Rattle.parse.proofs.Facts.{count_few, head_few}
+use Rattle.std.proofs.Common.{◌≡◌, ℕ, ◌<◌, ◌≤◌, List, length, get_or, refl, sym, ap, ◌∙◌, arith, rules}
+use Rattle.parse.proofs.Facts.{head_few}
 use Rattle.record.proofs.Copies.{copied_in, copied_length, copied_past, front_is, length_front}
 use Rattle.record.proofs.Fitness.{head_long}
 use Rattle.record.proofs.calls.advance.Goals as goal
 
-pub needed-requires : goal.needed-requires
-needed-requires c = let q = c.args.query.now in record { few = (count_few q.parsed q.held, q.sized) }
-
 pub returns-then-answer-h : goal.returns-then-answer-h
 returns-then-answer-h c =
     (record { parsed = refl; nodes = refl; last = refl; answer = refl }, omega arith, omega (arith, head_long c.args.query.now))
-
-pub invariant_of-query : goal.invariant_of-query
-invariant_of-query c =
-    let q = c.args.query.now in record {
-      held = q.held;
-      sized = q.sized;
-      inside = λ t i e.
-          let same : c.in-Some.tuple ≡ t = cc e.0 in
-          let hl = head_long q in
-          let il = e.1 in
-          subst (λ (z : List ℕ). get_or z i 0 < q.nodes) same (c.in-Some.ensures.fits.within i (omega arith));
-    }
-
-pub returns-in-None : goal.returns-in-None
-returns-in-None c =
-    (record { parsed = refl; nodes = refl; last = refl; answer = refl }, omega arith, omega (arith, head_long c.args.query.now), c.in-None.ensures)
 
 pub slice_bounds-tuple-end : goal.slice_bounds-tuple-end
 slice_bounds-tuple-end c =

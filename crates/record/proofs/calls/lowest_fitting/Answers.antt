@@ -1,5 +1,4 @@
-use Rattle.std.proofs.Common.{◌≡◌, ℕ, ◌*◌, ◌≤◌, length, refl, sym, ap, ◌∙◌, subst, arith}
-use Rattle.bits.specs.Rows.{width}
+use Rattle.std.proofs.Common.{refl, sym, ◌∙◌, arith}
 use Rattle.meaning.specs.Tuples.{last_of, noted_of}
 use Rattle.parse.proofs.Facts.{count_few, head_few, head_some, names_long}
 use Rattle.record.proofs.Fitness.{head_long, inside_last, lowest_here, pairs_long}

@@ -3,11 +3,6 @@ use Rattle.parse.proofs.Facts.{arranged, count_few, count_some}
 use Rattle.record.specs.Calls.{needed}
 use Rattle.record.proofs.calls.prepare.Goals as goal
 
-pub needed-requires : goal.needed-requires
-needed-requires g c =
-    let q = c.args.query.now in
-    record { few = (count_few q.parsed q.held, omega (arith, (g.G.Graph.graph c.args.graph.now).sized.1)) }
-
 pub fill_tables-requires : goal.fill_tables-requires
 fill_tables-requires g c =
     let q = c.args.query.now in

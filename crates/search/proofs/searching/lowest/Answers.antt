@@ -1,5 +1,5 @@
 use Rattle.std.proofs.Common.{◌≡◌, ℕ, ◌+◌, ◌-◌, ◌<◌, ◌≤◌, true, false, List, [], length, Option, IfSome, set, replicate, sym, refl, ◌∙◌, subst, inl, inr, arith, rules}
-use Rattle.std.proofs.lemmas.Bool.{both_ways, cases_eq}
+use Rattle.std.proofs.lemmas.Bool.{both_ways}
 use Rattle.meaning.specs.Tuples.{node, Within, noted_of, last_of}
 use Rattle.search.specs.Heads.{placed, relations}
 use Rattle.search.specs.Places.{Goes}
@@ -103,14 +103,3 @@ returns-then-at-free c =
     let h = t.places.now.free in
     least_from (placed t.places.now) (relations t) n h (noted_of c.args.last) (last_of c.args.last) c.loop-cur.cur c.requires.head.0
     (finish (Goes (placed t.places.now) (relations t)) (goes_prefix (placed t.places.now) (relations t)) n h (noted_of c.args.last) (last_of c.args.last) c.loop-cur.cur c.loop-cur.at c.loop-cur.invariant.0 c.loop-cur-test.true (c.if-goes-2.ensures.0 refl) c.if-at-free.true)
-
-pub loop-at-preserved : goal.loop-at-preserved
-loop-at-preserved c = (
-  omega arith,
-  λ k ka. elim (cases_eq k c.loop-at.at) [
-    | inl e ↦ (let t = c.args.tables.now in
-        let F : ℕ → Type 0 = λ j. Goes (placed t.places.now) (relations t) j c.in-Some.tuple in
-        subst F (sym e) (c.if-goes.ensures.0 refl))
-    | inr d ↦ c.loop-at.invariant.1 k (omega arith)
-  ],
-)

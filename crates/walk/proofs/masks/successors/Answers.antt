@@ -1,7 +1,7 @@
 use Rattle.std.proofs.Common.{◌≡◌, ap, arith, rules}
 use Rattle.bits.specs.declared.members.Members.{Members}
 use Rattle.bits.proofs.Sets.{has_below}
-use Rattle.walk.proofs.Unions.{following_none, following_more, following_all}
+use Rattle.walk.proofs.Unions.{following_none, following_more}
 use Rattle.walk.proofs.masks.successors.Goals as goal
 
 pub loop-s-init : goal.loop-s-init
@@ -22,6 +22,3 @@ loop-s-preserved c =
       (let less = c.next.ensures.goes in search rules),
       following_more c.args.automaton.now c.args.states c.loop-s.s-iterator.0 c.next.new.self.0 c.loop-s.next c.in-Some.s takes.0 takes.1 c.loop-s.invariant.1,
     )
-
-pub returns : goal.returns
-returns c = following_all c.args.automaton.now c.args.states c.loop-s.s-iterator.0 c.loop-s.next c.in-None.ensures.steps c.loop-s.invariant.1

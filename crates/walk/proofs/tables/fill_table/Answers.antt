@@ -4,25 +4,8 @@ use Rattle.bits.specs.Rows.{width, Cleared}
 use Rattle.meaning.specs.Paths.{Path, Joins}
 use Rattle.walk.specs.Moves.{In, Leads, Spells}
 use Rattle.walk.specs.Rows.{Kept, RowAt, TableAt}
-use Rattle.walk.proofs.Layouts.{kept_spells, part_length, put_length, row_end, path_below, spells_joins, table_more, table_none, table_tells, table_written}
+use Rattle.walk.proofs.Layouts.{kept_spells, part_length, path_below, spells_joins, table_more, table_tells, table_written}
 use Rattle.walk.proofs.tables.fill_table.Goals as goal
-
-pub loop-source-init : goal.loop-source-init
-loop-source-init g c = table_none _ _ _ _ _ _
-
-pub write_row-requires : goal.write_row-requires
-write_row-requires g c =
-    let n = c.node_count-n.result in
-    let t = c.args.scratch in
-    let row = c.width-row.result in
-    let table : c.args.start + n * row ≤ t = subst (λ (k : ℕ). c.args.start + n * k ≤ t) (sym c.width-row.ensures) (subst (λ (y : ℕ). c.args.start + y * width y ≤ t) (sym c.node_count-n.ensures) c.requires.table) in
-    let l : t + (n + n) ≤ length c.loop-source.words = omega arith in
-    let len : length c.run_from.new.z ≡ (t + (n + n)) - t = c.run_from.auto.z ∙ part_length c.loop-source.words t (t + (n + n)) l in
-    let p = put_length t ((t + (n + n)) - t) c.loop-source.words c.run_from.new.z (omega arith) len in
-    record {
-      scratch = omega arith;
-      before = omega (arith, row_end c.loop-source.source n row (omega arith), c.width-row.ensures);
-    }
 
 pub loop-source-preserved : goal.loop-source-preserved
 loop-source-preserved g c =

@@ -1,8 +1,8 @@
-use Rattle.std.proofs.Common.{◌≡◌, ℕ, ◌+◌, ◌<◌, List, get_or, sym, ap, ◌∙◌, subst, arith}
+use Rattle.std.proofs.Common.{◌≡◌, ℕ, ◌+◌, List, get_or, sym, ap, ◌∙◌, subst, arith}
 use lib.Bits.{bit_and}
 use Rattle.bits.specs.Rows.{width, Cleared, RowSet}
 use Rattle.walk.specs.Rows.{Kept, Upto, RowAt}
-use Rattle.walk.proofs.Layouts.{kept_yes, kept_no, kept_as, row_none, row_more, row_skip, row_as}
+use Rattle.walk.proofs.Layouts.{kept_yes, kept_no, row_none, row_more, row_skip}
 use Rattle.walk.proofs.tables.write_row.Goals as goal
 use Rattle.walk.proofs.tables.write_row.Goals.{then-words-scratch-ne0, else-words-scratch-ne0}
 
@@ -29,18 +29,3 @@ loop-v-preserved c =
       | else-words-scratch-ne0 w ↦ subst (λ (L : List ℕ). RowAt (Upto P (v + 1)) Z L s (width n)) (sym w.words-is)
           (row_skip P Z Y s (width n) v c.loop-v.invariant (kept_no Z t n c.args.accept v (sym (ap (λ (y : ℕ). bit_and y c.args.accept) same) ∙ w.if-words-scratch-ne0.false)))
     ]
-
-pub returns : goal.returns
-returns c =
-    let Z = c.clear.new.words in
-    let X = c.args.words.now in
-    let n = c.args.n in
-    let t = c.args.scratch in
-    let s = c.args.start in
-    let cleared = subst (λ (k : ℕ). Cleared X Z s k) c.width.ensures c.clear.ensures in
-    let same = λ (y : ℕ) (h : y < n). cleared.rest (t + y) (λ a b. omega arith) in
-    let e : c.loop-v.v ≡ n = omega arith in
-    let P = Kept Z t n c.args.accept in
-    row_as (Upto P c.loop-v.v) (Kept X t n c.args.accept) X Z c.loop-v.words s (width n)
-    (λ x. ((λ h. kept_as Z X t n c.args.accept x (λ y l. sym (same y l)) h.1), λ h. (omega (arith, h.0), kept_as X Z t n c.args.accept x same h)))
-    cleared.rest c.loop-v.invariant

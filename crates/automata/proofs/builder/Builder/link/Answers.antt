@@ -1,14 +1,10 @@
-use Rattle.std.proofs.Common.{◌≡◌, ℕ, ◌%◌, false, sym, ap, ◌∙◌, subst, mod-eq_of_lt, arith, length-set, rules}
+use Rattle.std.proofs.Common.{◌≡◌, false, sym, ap, ◌∙◌, mod-eq_of_lt, arith, length-set}
 use Rattle.std.proofs.lemmas.Bool.{both_ways}
 use Rattle.std.proofs.lemmas.List.{set-get_or}
 use Rattle.bits.specs.Bits.{bit, Has}
-use Rattle.automata.specs.Sets.{Linked}
-use Rattle.automata.proofs.Links.{linked_none, linked_skip, linked_more}
+use Rattle.automata.proofs.Links.{linked_skip, linked_more}
 use Rattle.automata.proofs.builder.Builder.link.Goals.{then-has, else-has}
 use Rattle.automata.proofs.builder.Builder.link.Goals as goal
-
-pub loop-p-init : goal.loop-p-init
-loop-p-init c = (search rules, linked_none _ _ _)
 
 pub loop-p-preserved : goal.loop-p-preserved
 loop-p-preserved c =
@@ -21,8 +17,3 @@ loop-p-preserved c =
       | else-has w ↦ let gone : bit c.args.last p ≡ false = sym is ∙ w.if-has.false in
           rw (w.row-items-is, set-get_or c.loop-p.row-items p 0) (inv.0, linked_skip _ _ _ _ _ (both_ways (bit c.args.last p) gone) inv.1)
     ]
-
-pub returns-clause-linked : goal.returns-clause-linked
-returns-clause-linked c =
-    let all : c.loop-p.p ≡ 64 = omega (arith, c.loop-p-test.false, c.loop-p.auto.p-end) in
-    subst (λ (k : ℕ). Linked c.args.self.now.follow c.loop-p.row-items k c.args.last c.args.first) all c.loop-p.invariant.1

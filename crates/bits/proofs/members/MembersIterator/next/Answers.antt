@@ -1,4 +1,4 @@
-use Rattle.std.proofs.Common.{◌<◌, arith, rules}
+use Rattle.std.proofs.Common.{◌<◌, rules}
 use Rattle.bits.proofs.Sets.{some_bit}
 use Rattle.bits.proofs.members.MembersIterator.next.Goals as goal
 

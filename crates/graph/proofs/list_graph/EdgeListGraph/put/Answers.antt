@@ -1,12 +1,12 @@
-use Rattle.std.proofs.Common.{ℕ, ◌<◌, ◌≤◌, List, length, set, sym, refl, ap, ◌∙◌, arith, length-set}
-use Rattle.std.proofs.lemmas.Bool.{leb-true, leb-false}
+use Rattle.std.proofs.Common.{ℕ, ◌<◌, List, length, set, sym, refl, ap, ◌∙◌, arith, length-set}
+use Rattle.std.proofs.lemmas.Bool.{leb-false}
 use Rattle.meaning.specs.Graphs.{size}
 use Rattle.graph.specs.declared.edges.Edge.{Edge}
 use Rattle.graph.specs.declared.sizes.Sizes.{Sizes}
 use Rattle.graph.specs.Edges.{among}
 use Rattle.graph.specs.Lists.{graph_of_list}
 use Rattle.graph.proofs.Among.{among_at, among_append}
-use Rattle.graph.proofs.OneEdge.{put_taken_there, put_taken_new, put_full}
+use Rattle.graph.proofs.OneEdge.{put_taken_there, put_taken_new}
 use Rattle.graph.proofs.list_graph.EdgeListGraph.put.Goals as goal
 
 pub returns-in-Some : goal.returns-in-Some
@@ -16,13 +16,6 @@ returns-in-Some c =
     let fine = c.in_ok-check_edge.ensures in
     let there = among_at s.slots.now s.len c.in-Some.field-0 c.args.e h.0 h.1 in
     record { puts = (put_taken_there (graph_of_list s) c.args.e fine.0 there, there, refl); memory = refl; lender = refl }
-
-pub returns-then-is_full : goal.returns-then-is_full
-returns-then-is_full c =
-    let s = c.args.self.now in
-    let fine = c.in_ok-check_edge.ensures in
-    let full : length s.slots.now ≤ size (graph_of_list s) = omega (arith, leb-true _ _ (sym c.if-is_full.ensures), s.counted) in
-    record { puts = (put_full (graph_of_list s) c.args.e fine.0 c.in_default.ensures full, refl); memory = refl; lender = refl }
 
 pub returns : goal.returns
 returns c =

@@ -1,4 +1,4 @@
-use Rattle.std.proofs.Common.{◌+◌, ◌*◌, true, set, refl, ap, ◌∙◌, arith, length-set}
+use Rattle.std.proofs.Common.{◌+◌, ◌*◌, true, set, ap, ◌∙◌, arith, length-set}
 use Rattle.graph.specs.Rows.{in_table}
 use Rattle.graph.proofs.InTable.{table_changed, count_small}
 use Rattle.graph.proofs.OneEdge.{count_put}
@@ -18,12 +18,4 @@ invariant_of-self c =
       wide = simp length-set s.wide;
       counted = count_put s.sizes.nodes s.sizes.labels e (in_table s.sizes.nodes s.sizes.labels s.words) (in_table s.sizes.nodes s.sizes.labels ws) c.requires.legal c.requires.new change
           ∙ ap (λ k. k + 1) s.counted;
-    }
-
-pub returns : goal.returns
-returns c =
-    let s = c.args.self.now in
-    record {
-      words = table_changed s.sizes.nodes s.sizes.labels s.words c.args.e true c.marked.result s.sizes.sized.1 s.sizes.sized.3 s.wide c.requires.legal c.marked.ensures;
-      sizes = refl;
     }

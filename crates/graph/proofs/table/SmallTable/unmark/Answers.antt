@@ -1,4 +1,4 @@
-use Rattle.std.proofs.Common.{◌+◌, ◌*◌, false, set, refl, arith, length-set}
+use Rattle.std.proofs.Common.{◌+◌, ◌*◌, false, set, arith, length-set}
 use Rattle.graph.specs.Rows.{in_table}
 use Rattle.graph.proofs.InTable.{table_changed, legal_in_table}
 use Rattle.graph.proofs.OneEdge.{count_strike}
@@ -25,13 +25,4 @@ invariant_of-self c =
     record {
       wide = simp length-set s.wide;
       counted = omega (arith, less, was);
-    }
-
-pub returns : goal.returns
-returns c =
-    let s = c.args.self.now in
-    record {
-      words = table_changed s.sizes.nodes s.sizes.labels s.words c.args.e false c.cleared.result s.sizes.sized.1 s.sizes.sized.3 s.wide
-          (legal_in_table s.sizes.nodes s.sizes.labels s.words c.args.e c.requires.old) c.cleared.ensures;
-      sizes = refl;
     }

@@ -1,4 +1,4 @@
-use Rattle.std.proofs.Common.{◌≡◌, ℕ, ◌*◌, sym, ap, ◌∙◌, arith}
+use Rattle.std.proofs.Common.{◌≡◌, ℕ, ◌*◌, sym, ap, arith}
 use Rattle.graph.specs.declared.sizes.Sizes.{Sizes}
 use Rattle.graph.specs.Rows.{in_table}
 use Rattle.graph.specs.Tables.{graph_of_table}

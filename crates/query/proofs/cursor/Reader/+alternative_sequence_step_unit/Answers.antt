@@ -1,16 +1,13 @@
 use Rattle.std.proofs.Common.{[], ◌∷◌, refl, ap, arith}
 use Rattle.std.proofs.lemmas.Result.{err_from_is_err_and}
 use Rattle.query.specs.Grammar.{dot, letter}
-use Rattle.query.proofs.Joints.{by_slash, by_bar, by_join, by_either, fails_first, begins, goes_round, fails_later, ends, one_byte, fails_inside, closes, unclosed, fails_unit, with_signs, at_end, bad_here}
+use Rattle.query.proofs.Joints.{by_slash, by_bar, by_join, by_either, fails_first, goes_round, fails_later, ends, one_byte, fails_inside, closes, unclosed, fails_unit, with_signs, at_end, bad_here}
 use Rattle.query.proofs.cursor.Reader.+alternative_sequence_step_unit.Goals as goal
 
 pub alternative-returns-in_err-part : goal.alternative-returns-in_err-part
 alternative-returns-in_err-part t c =
     let p = err_from_is_err_and c.from_residual.result c.from_residual.ensures.1 in
     rw (p.1, p.2) (fails_first by_bar c.in_err-part.ensures)
-
-pub alternative-loop-self-init : goal.alternative-loop-self-init
-alternative-loop-self-init t c = begins by_bar c.in_ok-part.ensures
 
 pub alternative-loop-self-preserved : goal.alternative-loop-self-preserved
 alternative-loop-self-preserved t c = goes_round by_bar c.loop-self.invariant c.loop-self-test.ensures c.in_ok-more.ensures (by_either c.either-part.ensures)
@@ -27,9 +24,6 @@ pub sequence-returns-in_err-part : goal.sequence-returns-in_err-part
 sequence-returns-in_err-part t c =
     let p = err_from_is_err_and c.from_residual.result c.from_residual.ensures.1 in
     rw (p.1, p.2) (fails_first by_slash c.in_err-part.ensures)
-
-pub sequence-loop-self-init : goal.sequence-loop-self-init
-sequence-loop-self-init t c = begins by_slash c.in_ok-part.ensures
 
 pub sequence-loop-self-preserved : goal.sequence-loop-self-preserved
 sequence-loop-self-preserved t c = goes_round by_slash c.loop-self.invariant c.loop-self-test.ensures c.in_ok-more.ensures (by_join c.join-part.ensures.count c.join-part.ensures.symbols c.join-part.ensures.linked c.join-part.ensures.part)

@@ -1,6 +1,6 @@
 use Rattle.std.proofs.Common.{refl}
 use Rattle.std.proofs.lemmas.Result.{err_from_is_err_and}
-use Rattle.query.proofs.Wholes.{head_unnamed, head_begins, head_more, head_fails, head_read, no_names}
+use Rattle.query.proofs.Wholes.{head_unnamed, head_begins, head_more, head_fails, no_names}
 use Rattle.query.proofs.cursor.Reader.head.Goals as goal
 
 pub returns-in_err-first : goal.returns-in_err-first
@@ -18,6 +18,3 @@ pub returns-in_err-more : goal.returns-in_err-more
 returns-in_err-more c =
     let p = err_from_is_err_and c.from_residual-in_err-more.result c.from_residual-in_err-more.ensures.1 in
     rw (p.1, p.2) (head_fails c.requires c.in_ok-first.ensures c.loop-self.invariant c.loop-self-test.ensures c.in_err-more.ensures)
-
-pub returns : goal.returns
-returns c = head_read c.requires c.in_ok-first.ensures c.loop-self.invariant c.loop-self-test.ensures

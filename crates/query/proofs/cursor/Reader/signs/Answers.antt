@@ -1,10 +1,7 @@
 use Rattle.std.proofs.Common.{refl, arith}
-use Rattle.query.proofs.Joints.{moves_none, sign_more, by_star, by_plus, by_opt}
+use Rattle.query.proofs.Joints.{sign_more, by_star, by_plus, by_opt}
 use Rattle.query.proofs.cursor.Reader.signs.Goals.{in-42, in-43, in-63}
 use Rattle.query.proofs.cursor.Reader.signs.Goals as goal
-
-pub loop-c-init : goal.loop-c-init
-loop-c-init c = moves_none _ _ _ c.args.self.now.within c.requires
 
 pub loop-c-preserved : goal.loop-c-preserved
 loop-c-preserved c =

@@ -1,19 +1,7 @@
-use Rattle.std.proofs.Common.{◌≡◌, ℕ, ◌*◌, ◌^◌, ◌<◌, ◌≤◌, get_or, take, drop, sum, sym, ◌∙◌, subst, ⊎_elim, arith, length-take}
-use Rattle.std.proofs.lemmas.List.{get_or-take, get_or_past}
-use Rattle.std.proofs.lemmas.Bool.{cases_lt}
-use Rattle.walk.specs.Marked.{Small}
-use Rattle.walk.proofs.Closure.{walked_none, walked_all, sum_small}
+use Rattle.std.proofs.Common.{◌*◌, ◌^◌, ◌≤◌, take, drop, sum, ◌∙◌, arith}
+use Rattle.walk.proofs.Closure.{walked_all, sum_small}
 use Rattle.walk.proofs.Halves.{blank, half_length}
 use Rattle.walk.proofs.walks.Walk.run.Goals as goal
-
-pub loop-init : goal.loop-init
-loop-init g c =
-    let G = g.G.Graph.graph c.args.self.now.graph.now in
-    let Z = c.args.z.now in
-    let few : Small (take G.nodes Z) = λ v. ⊎_elim
-    (λ (l : v < G.nodes). subst (λ (y : ℕ). y < 2 ^ 64) (sym (get_or-take G.nodes Z v 0 l)) (c.type_inv.z v).fits)
-    (λ (l : G.nodes ≤ v). let past : get_or (take G.nodes Z) v 0 ≡ 0 = get_or_past (take G.nodes Z) v 0 (simp length-take (omega arith)) in omega arith) (cases_lt v G.nodes) in
-    (c.requires.scratch, walked_none G.has G.labels c.args.self.now.automaton.now G.nodes Z c.requires.seeds few)
 
 pub loop-preserved : goal.loop-preserved
 loop-preserved g c = (c.pass.auto.z ∙ c.loop.invariant.0, c.pass.ensures.on _ c.loop.invariant.1)

@@ -1,4 +1,4 @@
-use Rattle.std.proofs.Common.{◌≡◌, ℕ, ◌+◌, ◌<◌, length, get_or, take, drop, set, refl, subst, arith}
+use Rattle.std.proofs.Common.{ℕ, ◌+◌, ◌<◌, length, get_or, take, drop, set, refl, subst, arith}
 use Rattle.std.proofs.lemmas.List.{get_or-drop}
 use Rattle.std.proofs.lemmas.List.Sums.{sum_by-set}
 use Rattle.std.proofs.lemmas.Bool.{true≢false}
@@ -28,10 +28,3 @@ returns g c =
       less = omega (arith, grown.less, sum_by-set (λ x. x) (drop N Z) v 0 0 b);
       none = λ f. absurd (true≢false f);
     }
-
-pub returns-then-states-eq0 : goal.returns-then-states-eq0
-returns-then-states-eq0 g c = record {
-  on = λ S k. k;
-  less = omega arith;
-  none = λ f. (refl, rw get_or-drop (subst (λ (y : ℕ). get_or c.args.z.now (y + c.args.node) 0 ≡ 0) c.node_count-n.ensures c.if-states-eq0.true));
-}
