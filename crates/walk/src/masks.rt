@@ -18,7 +18,7 @@ impl<'a, G: Graph> Walk<'a, G> {
         Walk {
             graph,
             automaton,
-            masks: masks(automaton),
+            masks: masks(automaton, graph.label_count()),
         }
     }
 }
@@ -47,13 +47,14 @@ fn entered_by(automaton: &Automaton, label: LabelId) -> u64
     states
 }
 
-// For each label, the set of the states that are entered by it.
-fn masks(automaton: &Automaton) -> [u64; 26]
+// For each label below `labels`, the set of the states that are entered by it.
+fn masks(automaton: &Automaton, labels: LabelId) -> [u64; 26]
+    requires { labels ≤ 26 }
     ensures long { length result ≡ 26 }
-    ensures each { (q : ℕ) → q ≤ 26 → Entering q automaton.now result }
+    ensures each { (q : ℕ) → q ≤ labels → Entering q automaton.now result }
 {
     let mut masks = [0; 26];
-    for (label, states) in masks.iter_mut().enumerate() {
+    for (label, states) in masks[..labels as usize].iter_mut().enumerate() {
         *states = entered_by(automaton, label as LabelId);
     }
     masks

@@ -20,13 +20,13 @@ pub fn report_text(heap: Global, survey: &Survey) -> Result<String, AllocError>
     Ok(out)
 }
 
-// Adds a line for each item, ended by a line feed.
+// Adds a line for each item, ended by a line feed, which stands in the text so that a planted bug can change it and nothing else.
 fn push_lines<T: Display>(out: &mut String, items: &[T]) -> Result<(), AllocError>
     requires { (x : T) → IsSome (T.output x) }
     ensures { OnOk result (string_bytes out.new ≡ string_bytes out.old ++ text (map (λ x. printed (T.output x)) items.now)) }
 {
     for item in items {
-        writeln!(out, "{item}")?;
+        write!(out, "{item}\n")?;
     }
     Ok(())
 }

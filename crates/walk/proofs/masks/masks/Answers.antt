@@ -1,5 +1,6 @@
 use Rattle.std.proofs.Common.{◌≡◌, ℕ, ◌<◌, ◌≢◌, ◌↔◌, length, get_or, set, sym, subst, ⊎_elim, arith, length-set, get_or-set_other, get_or-set_same}
 use Rattle.std.proofs.lemmas.Bool.{cases_eq}
+use Rattle.std.proofs.lemmas.List.{get_or_append_left}
 use Rattle.bits.specs.Bits.{Has}
 use Rattle.walk.specs.Moves.{Enters}
 use Rattle.walk.proofs.masks.masks.Goals as goal
@@ -20,4 +21,8 @@ loop-label-preserved c =
     )
 
 pub returns-clause-each : goal.returns-clause-each
-returns-clause-each c q few a t l = c.loop-label.invariant.1 q a t (omega (arith, few, l, c.loop-label.invariant.0, c.loop-label-test.false)) l
+returns-clause-each c q few a t l =
+    let M = c.loop-label.states-items in
+    let here : a < length M = omega (arith, few, l, c.loop-label.invariant.0) in
+    subst (λ (y : ℕ). Has y t ↔ Enters q c.args.automaton.now t a) (sym (get_or_append_left M _ 0 a here))
+    (c.loop-label.invariant.1 q a t (omega (arith, here, c.loop-label-test.false)) l)
